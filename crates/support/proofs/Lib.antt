@@ -1,0 +1,10 @@
+pub mod Pieces
+pub mod ByteLaws
+pub mod TextLaws
+pub mod Places
+pub mod Table
+pub mod Utf8Laws
+pub mod WhiteLaws
+pub mod Characters
+pub mod TrimLaws
+pub mod ProvedSet
