@@ -140,12 +140,12 @@ pub record ValidFrom (n : ℕ) (s : Bytes) : Type 0 where
 pub valid-start : (s : Bytes) → validLength s ≡ length s → ValidFrom 0 s
 valid-start s e = record { whole = e; rest = λ j h. absurd (omega arith) }
 
-later : (n b : ℕ) (s : Bytes) → ValidFrom (suc n) (b ∷ s) → ValidFrom n s
+pub later : (n b : ℕ) (s : Bytes) → ValidFrom (suc n) (b ∷ s) → ValidFrom n s
 unfolding leadingFrom
 later n b s v = record { whole = omega (arith, v .whole); rest = λ j h. v .rest (suc j) (omega arith) }
 
 -- a valid text starts with a character, and after its first byte the rest of that character goes first
-first-char : (b : ℕ) (s : Bytes) → ValidFrom 0 (b ∷ s) → (m : ℕ) × (charLength (b ∷ s) ≡ suc m) × ValidFrom m s
+pub first-char : (b : ℕ) (s : Bytes) → ValidFrom 0 (b ∷ s) → (m : ℕ) × (charLength (b ∷ s) ≡ suc m) × ValidFrom m s
 unfolding leadingFrom
 first-char b s v = go (charLength (b ∷ s)) refl (v .whole)
   where

@@ -72,10 +72,10 @@ module _ (other : Bytes → ℕ) (white : (c : ℕ) (s : Bytes) → isBlank c �
       go true f e = white c s f ∙ e
       go false f e = absurd (omega arith)
 
-blank-front : (s : Bytes) (n : ℕ) → blankLength s ≡ suc n → whiteLength s ≡ suc n
+pub blank-front : (s : Bytes) (n : ℕ) → blankLength s ≡ suc n → whiteLength s ≡ suc n
 blank-front = blank-finer whiteLength blank-white
 
-blank-back : (s : Bytes) (n : ℕ) → blankLength s ≡ suc n → whiteLengthBack s ≡ suc n
+pub blank-back : (s : Bytes) (n : ℕ) → blankLength s ≡ suc n → whiteLengthBack s ≡ suc n
 blank-back = blank-finer whiteLengthBack blank-white-back
 
 pub blanks-then-start : (s : Bytes) → trimStart (trimStartBlanks s) ≡ trimStart s

@@ -55,9 +55,9 @@ module _ (r : Range) (b : ℕ) (s : Bytes) (e : inRange b r ≡ true) where
   pass ((q ∷ p) ∷ ps) qs t =
       rw (apart-out b r q (and-left (apart r q) (startNot r ps) t) e, rowLength, fits) (pass ps qs (and-right (apart r q) (startNot r ps) t))
 
-  none : (ps : List (List Range)) → startNot r ps ≡ true → rowLength ps (b ∷ s) ≡ 0
+  pub starts-none : (ps : List (List Range)) → startNot r ps ≡ true → rowLength ps (b ∷ s) ≡ 0
   unfolding rowLength
-  none ps t = ap (λ l. rowLength l (b ∷ s)) (sym (append-nil ps)) ∙ pass ps [] t
+  starts-none ps t = ap (λ l. rowLength l (b ∷ s)) (sym (append-nil ps)) ∙ pass ps [] t
 
   only : (ps qs : List (List Range)) (rs : List Range) → startNot r ps && startNot r qs ≡ true
       → rowLength (ps ++ (r ∷ rs) ∷ qs) (b ∷ s) ≡ if (fits rs s) (suc (length rs)) 0
@@ -65,7 +65,7 @@ module _ (r : Range) (b : ℕ) (s : Bytes) (e : inRange b r ≡ true) where
   only ps qs rs t =
       pass ps ((r ∷ rs) ∷ qs) (and-left (startNot r ps) (startNot r qs) t)
       ∙ ap (λ (v : Bool). if (v && fits rs s) (suc (length rs)) (rowLength qs (b ∷ s))) e
-      ∙ ap (λ (n : ℕ). if (fits rs s) (suc (length rs)) n) (none qs (and-right (startNot r ps) (startNot r qs) t))
+      ∙ ap (λ (n : ℕ). if (fits rs s) (suc (length rs)) n) (starts-none qs (and-right (startNot r ps) (startNot r qs) t))
 
 -- the first byte is one of row k, and of no other
 pub row-at : (k low high : ℕ) (rs : List Range) → rows ≡ take k rows ++ (to low high ∷ rs) ∷ drop (suc k) rows
@@ -78,7 +78,7 @@ row-at k low high rs q t b s h l =
 -- the first byte is one of no row
 pub row-none : (low high : ℕ) → startNot (to low high) rows ≡ true → (b : ℕ) (s : Bytes) → low ≤ b → b ≤ high → charLength (b ∷ s) ≡ 0
 unfolding charLength
-row-none low high t b s h l = none (to low high) b s (in-range b low high h l) rows t
+row-none low high t b s h l = starts-none (to low high) b s (in-range b low high h l) rows t
 
 -- a byte past the end, read as 0, is in no range of a later byte
 pub pad : (s : Bytes) → 0 < length s → charLength (getD s 0 0 ∷ getD s 1 0 ∷ getD s 2 0 ∷ getD s 3 0 ∷ []) ≡ charLength s

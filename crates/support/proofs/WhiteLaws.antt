@@ -1,7 +1,7 @@
 -- The White_Space character that a text starts or ends with, by its bytes. Assumes nothing.
 -- ---- the list of encodings
 -- the test passes at each
-use Prim.Native.Nat.{ℕ, suc, _+_, _-_, _≤_, _<_}
+use Prim.Native.Nat.{zero, ℕ, suc, _+_, _-_, _≤_, _<_}
 use native.Mathlib.Omega.{arith}
 use native.Mathlib.Numerals.{add-one}
 use mathlib.Core.Path.{_≡_, refl, sym, ap, subst, _∙_}
@@ -186,6 +186,44 @@ sized-passes f l n e = go (f (take 1 l)) (f (take 2 l)) (f (take 3 l)) refl refl
     go false false true p q r v = subst (λ (m : ℕ). f (take m l) ≡ true) v r
     go false false false p q r v = absurd (omega arith)
 
+-- a size is 1, 2 or 3, and is not 0 where some test of the three passes
+sized-most : (f : Bytes → Bool) (l : Bytes) (n : ℕ) → sized f l ≡ suc n → n < 3
+sized-most f l n e = go (f (take 1 l)) (f (take 2 l)) (f (take 3 l)) e
+  where
+    go : (x y z : Bool) → if x 1 (if y 2 (if z 3 0)) ≡ suc n → n < 3
+    go true y z v = omega arith
+    go false true z v = omega arith
+    go false false true v = omega arith
+    go false false false v = absurd (omega arith)
+
+sized-some : (f : Bytes → Bool) (l : Bytes) (n : ℕ) → n < 3 → f (take (suc n) l) ≡ true → sized f l ≡ 0 → ⊥
+sized-some f l zero h p e = omega (arith, sized-1 f l p, e)
+sized-some f l (suc zero) h p e = go (f (take 1 l)) refl
+  where
+    go : (x : Bool) → f (take 1 l) ≡ x → ⊥
+    go true q = omega (arith, sized-1 f l q, e)
+    go false q = omega (arith, sized-2 f l q p, e)
+sized-some f l (suc (suc zero)) h p e = go (f (take 1 l)) (f (take 2 l)) refl refl
+  where
+    go : (x y : Bool) → f (take 1 l) ≡ x → f (take 2 l) ≡ y → ⊥
+    go true y q r = omega (arith, sized-1 f l q, e)
+    go false true q r = omega (arith, sized-2 f l q r, e)
+    go false false q r = omega (arith, sized-3 f l q r p, e)
+sized-some f l (suc (suc (suc n))) h p e = omega arith
+
+-- a size is the same for two texts that begin alike as far as it goes
+sized-agree : (f : Bytes → Bool) (l k : Bytes) (n : ℕ) → ((m : ℕ) → m ≤ suc n → take m k ≡ take m l) → sized f l ≡ suc n → sized f k ≡ suc n
+sized-agree f l k n t e = go (f (take 1 l)) (f (take 2 l)) (f (take 3 l)) refl refl refl e
+  where
+    at : (m : ℕ) {x : Bool} → m ≤ suc n → f (take m l) ≡ x → f (take m k) ≡ x
+    at m h p = ap f (t m h) ∙ p
+
+    go : (x y z : Bool) → f (take 1 l) ≡ x → f (take 2 l) ≡ y → f (take 3 l) ≡ z → if x 1 (if y 2 (if z 3 0)) ≡ suc n → sized f k ≡ suc n
+    go true y z p q r v = sym (sized-1 f k (at 1 (omega arith) p)) ∙ v
+    go false true z p q r v = sym (sized-2 f k (at 1 (omega arith) p) (at 2 (omega arith) q)) ∙ v
+    go false false true p q r v = sym (sized-3 f k (at 1 (omega arith) p) (at 2 (omega arith) q) (at 3 (omega arith) r)) ∙ v
+    go false false false p q r v = absurd (omega arith)
+
 none-empty : isWhite [] ≡ false
 unfolding isWhite memberOf encodings codePoints encode sameBytes
 none-empty = refl
@@ -236,3 +274,21 @@ white-end t n e =
     ap (λ m. drop (m - suc n) t) (sym l) ∙ ap (drop (length (reverse t) - suc n)) (sym (reverse-reverse t)) ∙ drop-reverse (reverse t) (suc n) (omega arith) in
     let q = white-passes (λ p. eqb (charLength p) (length p)) refl w (sized-passes (λ p. isWhite (reverse p)) (reverse t) n e) in
     (h, ap charLength d ∙ eqb-true (charLength w) (length w) q ∙ before-length (reverse t) (suc n) (omega arith))
+
+-- the bytes that a size tells are one White_Space character, and where such bytes stand a size is told
+pub white-at-size : (s : Bytes) (n : ℕ) → whiteLength s ≡ suc n → isWhite (take (suc n) s) ≡ true
+unfolding whiteLength
+white-at-size s n e = sized-passes isWhite s n e
+
+pub white-most : (s : Bytes) (n : ℕ) → whiteLength s ≡ suc n → n < 3
+unfolding whiteLength
+white-most s n e = sized-most isWhite s n e
+
+pub white-some : (s : Bytes) (n : ℕ) → n < 3 → isWhite (take (suc n) s) ≡ true → whiteLength s ≡ 0 → ⊥
+unfolding whiteLength
+white-some s n h p e = sized-some isWhite s n h p e
+
+-- at the end, the same of texts that end alike
+pub white-end-agree : (l k : Bytes) (n : ℕ) → ((m : ℕ) → m ≤ suc n → take m k ≡ take m l) → whiteLengthBack l ≡ suc n → whiteLengthBack k ≡ suc n
+unfolding whiteLengthBack
+white-end-agree l k n t e = sized-agree (λ w. isWhite (reverse w)) l k n t e
