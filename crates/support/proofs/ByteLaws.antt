@@ -151,7 +151,8 @@ starts-same (a ∷ p) [] r h = absurd (omega arith)
 starts-same (a ∷ p) (b ∷ s) r h = ap (eqb b a &&_) (starts-same p s r (omega arith))
 
 -- p ends at offset e exactly if it stands there `length p` bytes before
-pub starts-back : (p s : Bytes) (e : ℕ) → length p ≤ e → e ≤ length s → startsWith (reverse p) (reverse (take e s)) ≡ startsWith p (drop (e - length p) s)
+pub starts-back : (p s : Bytes) (e : ℕ) → length p ≤ e → e ≤ length s
+    → startsWith (reverse p) (reverse (take e s)) ≡ startsWith p (drop (e - length p) s)
 starts-back p s e h k =
     let n = e - length p in
     let u = take e s in

@@ -11,7 +11,7 @@ use lib.ListN.{length, getD, take, drop, length-take}
 use lib.Seq.{length-take-le, getD-drop}
 use borrow.Author.Tests.{leb-true, leb-false, le-leb, lt-leb}
 use Rattle.support.specs.Bytes.{Bytes, if}
-use Rattle.support.specs.Utf8.{Range, to, inRange, tail, isTail, rows, fits, rowLength, charLength, validLength}
+use Rattle.support.specs.Utf8.{Range, to, inRange, tail, isTail, rows, fits, rowLength, charLength, Valid}
 use Rattle.support.specs.Leading.{leadingFrom, leading, dropFront, dropBack}
 use Rattle.support.proofs.Table.{and-left, and-right}
 use Rattle.support.proofs.Utf8Laws.{fits-le}
@@ -90,7 +90,8 @@ unfolding rowLength goodRows
 row-found P [] s m g e f = let z : _≡_ {A = ℕ} 0 1 = omega arith in absurd (omega arith)
 row-found P (r ∷ rs) s m g e f = go (fits r s) refl e (λ h. row-found P rs s m (and-right (goodRow r) (goodRows rs) g) h f)
   where
-    go : (u : Bool) → fits r s ≡ u → elim u [ true ↦ length r | false ↦ rowLength rs s ] ≡ suc m → (rowLength rs s ≡ suc m → (r : List Range) × P r) → (r : List Range) × P r
+    go : (u : Bool) → fits r s ≡ u → elim u [ true ↦ length r | false ↦ rowLength rs s ] ≡ suc m → (rowLength rs s ≡ suc m → (r : List Range) × P r)
+        → (r : List Range) × P r
     go true k e next = (r, f r (and-left (goodRow r) (goodRows rs) g) k e)
     go false k e next = next e
 
@@ -120,7 +121,8 @@ pub char-take : (s : Bytes) (m j : ℕ) → charLength s ≡ suc m → m < j →
 unfolding charLength rowLength
 char-take s m j e h = go rows e
   where
-    next : (r : List Range) (rs : List (List Range)) → (rowLength rs s ≡ suc m → rowLength rs (take j s) ≡ suc m) → (u v : Bool) → fits r s ≡ u → fits r (take j s) ≡ v
+    next : (r : List Range) (rs : List (List Range)) → (rowLength rs s ≡ suc m → rowLength rs (take j s) ≡ suc m) → (u v : Bool) → fits r s ≡ u
+        → fits r (take j s) ≡ v
         → elim u [ true ↦ length r | false ↦ rowLength rs s ] ≡ suc m → elim v [ true ↦ length r | false ↦ rowLength rs (take j s) ] ≡ suc m
     next r rs f true true p q e = e
     next r rs f true false p q e = impossible (sym p ∙ sym (fits-take r s j (omega arith)) ∙ q)
@@ -137,7 +139,7 @@ pub record ValidFrom (n : ℕ) (s : Bytes) : Type 0 where
   pub whole : leadingFrom charLength n s ≡ length s
   pub rest : (j : ℕ) → j < n → isTail (getD s j 0) ≡ true
 
-pub valid-start : (s : Bytes) → validLength s ≡ length s → ValidFrom 0 s
+pub valid-start : (s : Bytes) → Valid s → ValidFrom 0 s
 valid-start s e = record { whole = e; rest = λ j h. absurd (omega arith) }
 
 pub later : (n b : ℕ) (s : Bytes) → ValidFrom (suc n) (b ∷ s) → ValidFrom n s
@@ -149,21 +151,23 @@ pub first-char : (b : ℕ) (s : Bytes) → ValidFrom 0 (b ∷ s) → (m : ℕ) �
 unfolding leadingFrom
 first-char b s v = go (charLength (b ∷ s)) refl (v .whole)
   where
-    go : (k : ℕ) → charLength (b ∷ s) ≡ k → elim k [ zero ↦ 0 | suc m ↦ suc (leadingFrom charLength m s) ] ≡ suc (length s) → (m : ℕ) × (charLength (b ∷ s) ≡ suc m) × ValidFrom m s
+    go : (k : ℕ) → charLength (b ∷ s) ≡ k → elim k [ zero ↦ 0 | suc m ↦ suc (leadingFrom charLength m s) ] ≡ suc (length s)
+        → (m : ℕ) × (charLength (b ∷ s) ≡ suc m) × ValidFrom m s
     go zero e w = absurd (omega arith)
     go (suc m) e w = (m, e, record { whole = omega arith; rest = λ j h. char-tails b s m j e h })
 
-char-cons : (b : ℕ) (s : Bytes) (m : ℕ) → charLength (b ∷ s) ≡ suc m → leadingFrom charLength m s ≡ length s → leading charLength (b ∷ s) ≡ suc (length s)
+char-cons : (b : ℕ) (s : Bytes) (m : ℕ) → charLength (b ∷ s) ≡ suc m → leadingFrom charLength m s ≡ length s
+    → leading charLength (b ∷ s) ≡ suc (length s)
 unfolding leadingFrom
 char-cons b s m e w = rw (e, leadingFrom) (ap suc w)
 
-pub valid-first : (s : Bytes) → validLength s ≡ length s → isTail (getD s 0 0) ≡ false
+pub valid-first : (s : Bytes) → Valid s → isTail (getD s 0 0) ≡ false
 valid-first [] e = refl
 valid-first (b ∷ s) e = let c = first-char b s (valid-start (b ∷ s) e) in char-first (b ∷ s) (c .0) (c .1)
 
 -- a cut before a byte that is no tail byte leaves two valid texts
 cut : (n : ℕ) (s : Bytes) (i : ℕ) → ValidFrom n s → i ≤ length s → isTail (getD s i 0) ≡ false
-    → (leadingFrom charLength n (take i s) ≡ length (take i s)) × (validLength (drop i s) ≡ length (drop i s))
+    → (leadingFrom charLength n (take i s) ≡ length (take i s)) × Valid (drop i s)
 unfolding leadingFrom
 cut n [] zero v h t = (refl, refl)
 cut n [] (suc i) v h t = absurd (omega arith)
@@ -182,8 +186,8 @@ cut zero (b ∷ s) (suc i) v h t =
         go true e = omega (arith, leb-true m i e)
         go false e = impossible (sym (r i (omega (arith, leb-false m i e))) ∙ t)
 
-pub valid-cut : (s : Bytes) (i : ℕ) → validLength s ≡ length s → i ≤ length s → isTail (getD s i 0) ≡ false
-    → (validLength (take i s) ≡ length (take i s)) × (validLength (drop i s) ≡ length (drop i s))
+pub valid-cut : (s : Bytes) (i : ℕ) → Valid s → i ≤ length s → isTail (getD s i 0) ≡ false
+    → Valid (take i s) × Valid (drop i s)
 valid-cut s i e h t = cut 0 s i (valid-start s e) h t
 
 at-offset : (s : Bytes) (i : ℕ) → getD (drop i s) 0 0 ≡ getD s i 0
@@ -192,32 +196,32 @@ at-offset s i = getD-drop i s 0 0 ∙ ap (λ n. getD s n 0) (add-zero i)
 -- ---- trimming pieces that are characters
 
 module _ (size : Bytes → ℕ) (whole : (s : Bytes) (m : ℕ) → size s ≡ suc m → charLength s ≡ suc m) where
-  front : (n : ℕ) (s : Bytes) → ValidFrom n s → validLength (drop (leadingFrom size n s) s) ≡ length (drop (leadingFrom size n s) s)
+  front : (n : ℕ) (s : Bytes) → ValidFrom n s → Valid (drop (leadingFrom size n s) s)
   unfolding leadingFrom
   front n [] v = refl
   front (suc n) (b ∷ s) v = front n s (later n b s v)
   front zero (b ∷ s) v = go (size (b ∷ s)) refl (first-char b s v) (λ m w. front m s w)
     where
       go : (k : ℕ) → size (b ∷ s) ≡ k → (m : ℕ) × (charLength (b ∷ s) ≡ suc m) × ValidFrom m s
-          → ((m : ℕ) → ValidFrom m s → validLength (drop (leadingFrom size m s) s) ≡ length (drop (leadingFrom size m s) s))
-          → validLength (drop (elim k [ zero ↦ 0 | suc m ↦ suc (leadingFrom size m s) ]) (b ∷ s)) ≡ length (drop (elim k [ zero ↦ 0 | suc m ↦ suc (leadingFrom size m s) ]) (b ∷ s))
+          → ((m : ℕ) → ValidFrom m s → Valid (drop (leadingFrom size m s) s))
+          → Valid (drop (elim k [ zero ↦ 0 | suc m ↦ suc (leadingFrom size m s) ]) (b ∷ s))
       go zero e f next = v .whole
       go (suc k) e f next =
           let q : f .0 ≡ k = omega (arith, f .1, whole (b ∷ s) k e) in
           next k (subst (λ m. ValidFrom m s) q (f .2))
 
   -- what is left and what was cut are valid
-  pub front-valid : (s : Bytes) → validLength s ≡ length s
-      → (validLength (take (leading size s) s) ≡ length (take (leading size s) s)) × (validLength (dropFront size s) ≡ length (dropFront size s))
+  pub front-valid : (s : Bytes) → Valid s
+      → Valid (take (leading size s) s) × Valid (dropFront size s)
   unfolding dropFront
   front-valid s e =
       let w = front 0 s (valid-start s e) in
       valid-cut s (leading size s) e (leading-le size 0 s) (sym (ap isTail (at-offset s (leading size s))) ∙ valid-first (drop (leading size s) s) w)
 
 module _ (size : Bytes → ℕ) (whole : (s : Bytes) (m : ℕ) → size (reverse s) ≡ suc m → (suc m ≤ length s) × (charLength (drop (length s - suc m) s) ≡ suc m)) where
-  step : (s : Bytes) → validLength s ≡ length s → (k : ℕ) → size (reverse s) ≡ k
-      → ((t : Bytes) → length t < length s → validLength t ≡ length t → validLength (dropBack size t) ≡ length (dropBack size t))
-      → validLength (dropBack size s) ≡ length (dropBack size s)
+  step : (s : Bytes) → Valid s → (k : ℕ) → size (reverse s) ≡ k
+      → ((t : Bytes) → length t < length s → Valid t → Valid (dropBack size t))
+      → Valid (dropBack size s)
   step s e zero q next = rw (back-none size s q) e
   step s e (suc m) q next =
       let w = whole s m q in
@@ -225,10 +229,10 @@ module _ (size : Bytes → ℕ) (whole : (s : Bytes) (m : ℕ) → size (reverse
       let c = valid-cut s i e (omega arith) (sym (ap isTail (at-offset s i)) ∙ char-first (drop i s) m (w .1)) in
       rw (back-piece size s (suc m) q (w .0)) (next (take i s) (omega (arith, w .0, length-take-le i s (omega arith))) (c .0))
 
-  back : (f : ℕ) (s : Bytes) → length s ≤ f → validLength s ≡ length s → validLength (dropBack size s) ≡ length (dropBack size s)
+  back : (f : ℕ) (s : Bytes) → length s ≤ f → Valid s → Valid (dropBack size s)
   back zero s h e = step s e (size (reverse s)) refl (λ t l v. absurd (omega arith))
   back (suc f) s h e = step s e (size (reverse s)) refl (λ t l v. back f t (omega arith) v)
 
   -- what is left is valid
-  pub back-valid : (s : Bytes) → validLength s ≡ length s → validLength (dropBack size s) ≡ length (dropBack size s)
+  pub back-valid : (s : Bytes) → Valid s → Valid (dropBack size s)
   back-valid s e = back (length s) s (omega arith) e

@@ -13,7 +13,7 @@ use lib.ListN.{length, getD, take, drop, length-append, length-reverse, length-d
 use lib.Seq.{take-append-le, take-append-add, drop-append-le, drop-append-add, getD-drop, getD-at, length-take-le}
 use borrow.Author.Tests.{ltb-true, ltb-false}
 use Rattle.support.specs.Bytes.{Bytes, if, isEmpty}
-use Rattle.support.specs.Utf8.{Range, inRange, isTail, rows, fits, rowLength, charLength, validLength}
+use Rattle.support.specs.Utf8.{Range, inRange, isTail, rows, fits, rowLength, charLength, validLength, Valid}
 use Rattle.support.specs.Leading.{leadingFrom, leading, dropFront, dropBack}
 use Rattle.support.specs.WhiteSpace.{isWhite, whiteLength, whiteLengthBack, trimStart, trimEnd}
 use Rattle.support.specs.TextRules.{blankLength, trimStartBlanks, trimEndBlanks}
@@ -39,7 +39,8 @@ apartRows [] = true
 apartRows ([] ∷ ps) = false
 apartRows ((r ∷ rs) ∷ ps) = startNot r ps && apartRows ps
 
-row-append : (ps : List (List Range)) (b : ℕ) (s t : Bytes) (m : ℕ) → apartRows ps ≡ true → rowLength ps (b ∷ s) ≡ suc m → rowLength ps (b ∷ s ++ t) ≡ suc m
+row-append : (ps : List (List Range)) (b : ℕ) (s t : Bytes) (m : ℕ) → apartRows ps ≡ true → rowLength ps (b ∷ s) ≡ suc m
+    → rowLength ps (b ∷ s ++ t) ≡ suc m
 unfolding apartRows rowLength fits
 row-append [] b s t m g e = e
 row-append ([] ∷ ps) b s t m g e = absurd (false≢true g)
@@ -103,7 +104,7 @@ module _ (size : Bytes → ℕ) (whole : (s : Bytes) (m : ℕ) → size s ≡ su
           let q : f .0 ≡ k = omega (arith, f .1, whole (b ∷ s) k p) in
           rw (told (b ∷ s) t (f .0) (f .1) ∙ p, leadingFrom) (ap suc (next k (subst (λ m. ValidFrom m s) q (f .2)) (omega arith)))
 
-  pub front-join : (s t : Bytes) → validLength s ≡ length s → dropFront size (s ++ t) ≡ if (isEmpty (dropFront size s)) (dropFront size t) (dropFront size s ++ t)
+  pub front-join : (s t : Bytes) → Valid s → dropFront size (s ++ t) ≡ if (isEmpty (dropFront size s)) (dropFront size t) (dropFront size s ++ t)
   unfolding dropFront
   front-join s t v = go (dropFront size s) refl
     where
@@ -150,7 +151,8 @@ module _ (size : Bytes → ℕ)
     (told : (s t : Bytes) (m : ℕ) → suc m ≤ length t → size (reverse (s ++ t)) ≡ suc m → size (reverse t) ≡ suc m)
     (kept : (s t : Bytes) (m : ℕ) → size (reverse t) ≡ suc m → size (reverse (s ++ t)) ≡ suc m) where
   -- a piece does not begin before a valid text that follows
-  inside : (s : Bytes) (b : ℕ) (t : Bytes) (m : ℕ) → validLength (b ∷ t) ≡ suc (length t) → size (reverse (s ++ b ∷ t)) ≡ suc m → suc m ≤ suc (length t)
+  inside : (s : Bytes) (b : ℕ) (t : Bytes) (m : ℕ) → validLength (b ∷ t) ≡ suc (length t) → size (reverse (s ++ b ∷ t)) ≡ suc m
+      → suc m ≤ suc (length t)
   inside s b t m v e = go (ltb (suc (length t)) (suc m)) refl
     where
       n : ℕ
@@ -174,8 +176,8 @@ module _ (size : Bytes → ℕ)
       rw q (take-append-add s t (length t - suc m))
 
   -- whole texts first; then the last piece off both
-  step : (s t : Bytes) → validLength t ≡ length t → (k : ℕ) → size (reverse t) ≡ k
-      → ((u : Bytes) → length u < length t → validLength u ≡ length u → dropBack size (s ++ u) ≡ if (isEmpty (dropBack size u)) (dropBack size s) (s ++ dropBack size u))
+  step : (s t : Bytes) → Valid t → (k : ℕ) → size (reverse t) ≡ k
+      → ((u : Bytes) → length u < length t → Valid u → dropBack size (s ++ u) ≡ if (isEmpty (dropBack size u)) (dropBack size s) (s ++ dropBack size u))
       → dropBack size (s ++ t) ≡ if (isEmpty (dropBack size t)) (dropBack size s) (s ++ dropBack size t)
   step s [] v zero e next = rw (back-none size [] e, append-nil s)
   step s (b ∷ t) v zero e next = rw (back-none size (b ∷ t) e) (back-none size (s ++ b ∷ t) (none (size (reverse (s ++ b ∷ t))) refl))
@@ -192,11 +194,12 @@ module _ (size : Bytes → ℕ)
       ∙ ap (dropBack size) (shorter s t m (w .0))
       ∙ next (take i t) (omega (arith, w .0, length-take-le i t (omega arith))) (c .0))
 
-  joined : (f : ℕ) (s t : Bytes) → length t ≤ f → validLength t ≡ length t → dropBack size (s ++ t) ≡ if (isEmpty (dropBack size t)) (dropBack size s) (s ++ dropBack size t)
+  joined : (f : ℕ) (s t : Bytes) → length t ≤ f → Valid t
+      → dropBack size (s ++ t) ≡ if (isEmpty (dropBack size t)) (dropBack size s) (s ++ dropBack size t)
   joined zero s t h v = step s t v (size (reverse t)) refl (λ u l w. absurd (omega arith))
   joined (suc f) s t h v = step s t v (size (reverse t)) refl (λ u l w. joined f s u (omega arith) w)
 
-  pub back-join : (s t : Bytes) → validLength t ≡ length t → dropBack size (s ++ t) ≡ if (isEmpty (dropBack size t)) (dropBack size s) (s ++ dropBack size t)
+  pub back-join : (s t : Bytes) → Valid t → dropBack size (s ++ t) ≡ if (isEmpty (dropBack size t)) (dropBack size s) (s ++ dropBack size t)
   back-join s t v = joined (length t) s t (omega arith) v
 
 -- ---- the trims
@@ -208,7 +211,8 @@ module _ (other : Bytes → ℕ) (agree : (l k : Bytes) (n : ℕ) → ((m : ℕ)
   told-back : (s t : Bytes) (m : ℕ) → suc m ≤ length t → other (reverse (s ++ t)) ≡ suc m → other (reverse t) ≡ suc m
   told-back s t m h e = agree (reverse (s ++ t)) (reverse t) m (λ i k. sym (ends-alike s t i (omega arith))) e
 
-  kept-back : ((s : Bytes) (m : ℕ) → other (reverse s) ≡ suc m → suc m ≤ length s) → (s t : Bytes) (m : ℕ) → other (reverse t) ≡ suc m → other (reverse (s ++ t)) ≡ suc m
+  kept-back : ((s : Bytes) (m : ℕ) → other (reverse s) ≡ suc m → suc m ≤ length s) → (s t : Bytes) (m : ℕ) → other (reverse t) ≡ suc m
+      → other (reverse (s ++ t)) ≡ suc m
   kept-back le s t m e = let h = le t m e in agree (reverse t) (reverse (s ++ t)) m (λ i k. ends-alike s t i (omega arith)) e
 
 blank-agree : (l k : Bytes) (n : ℕ) → ((m : ℕ) → m ≤ suc n → take m k ≡ take m l) → blankLength l ≡ suc n → blankLength k ≡ suc n
@@ -218,19 +222,19 @@ blank-agree (c ∷ l) [] n t e = let z : _≡_ {A = ℕ} 0 1 = ap length (t 1 (o
 blank-agree (c ∷ l) (d ∷ k) n t e = let q : d ≡ c = ap (λ u. getD u 0 0) (t 1 (omega arith)) in rw q e
 
 module _ (s t : Bytes) where
-  pub start-join : validLength s ≡ length s → trimStart (s ++ t) ≡ if (isEmpty (trimStart s)) (trimStart t) (trimStart s ++ t)
+  pub start-join : Valid s → trimStart (s ++ t) ≡ if (isEmpty (trimStart s)) (trimStart t) (trimStart s ++ t)
   unfolding trimStart
   start-join v = front-join whiteLength white-char white-told s t v
 
-  pub start-blanks-join : validLength s ≡ length s → trimStartBlanks (s ++ t) ≡ if (isEmpty (trimStartBlanks s)) (trimStartBlanks t) (trimStartBlanks s ++ t)
+  pub start-blanks-join : Valid s → trimStartBlanks (s ++ t) ≡ if (isEmpty (trimStartBlanks s)) (trimStartBlanks t) (trimStartBlanks s ++ t)
   unfolding trimStartBlanks
   start-blanks-join v = front-join blankLength (λ u n e. white-char u n (blank-front u n e)) blank-told s t v
 
-  pub end-join : validLength t ≡ length t → trimEnd (s ++ t) ≡ if (isEmpty (trimEnd t)) (trimEnd s) (s ++ trimEnd t)
+  pub end-join : Valid t → trimEnd (s ++ t) ≡ if (isEmpty (trimEnd t)) (trimEnd s) (s ++ trimEnd t)
   unfolding trimEnd
   end-join v = back-join whiteLengthBack white-end (told-back whiteLengthBack white-end-agree) (kept-back whiteLengthBack white-end-agree (λ u m e. white-end u m e .0)) s t v
 
-  pub end-blanks-join : validLength t ≡ length t → trimEndBlanks (s ++ t) ≡ if (isEmpty (trimEndBlanks t)) (trimEndBlanks s) (s ++ trimEndBlanks t)
+  pub end-blanks-join : Valid t → trimEndBlanks (s ++ t) ≡ if (isEmpty (trimEndBlanks t)) (trimEndBlanks s) (s ++ trimEndBlanks t)
   unfolding trimEndBlanks
   end-blanks-join v =
       back-join blankLength (λ u m e. white-end u m (blank-back (reverse u) m e)) (told-back blankLength blank-agree) (kept-back blankLength blank-agree (λ u m e. white-end u m (blank-back (reverse u) m e) .0)) s t v

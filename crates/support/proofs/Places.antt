@@ -47,12 +47,14 @@ line-col-append p (b ∷ s) t = line-col-append (nextPlace p b) s t
 
 -- ---- from 1:1 it is document 01's place
 
-counted : (l c : ℕ) (s : Bytes) → l + length s ≤ largest → c + length s < largest → lineCol (at l (suc c)) s ≡ at (l + linefeeds s) (suc (charactersSince c s))
+counted : (l c : ℕ) (s : Bytes) → l + length s ≤ largest → c + length s < largest
+    → lineCol (at l (suc c)) s ≡ at (l + linefeeds s) (suc (charactersSince c s))
 unfolding lineCol linefeeds charactersSince nextPlace
 counted l c [] h k = let q : l ≡ l + 0 = omega arith in ap (λ n. at n (suc c)) q
 counted l c (b ∷ s) h k = go (eqb b 10) (isTail b) (λ l c h k. counted l c s h k)
   where
-    go : (u v : Bool) → ((l c : ℕ) → l + length s ≤ largest → c + length s < largest → lineCol (at l (suc c)) s ≡ at (l + linefeeds s) (suc (charactersSince c s)))
+    go : (u v : Bool)
+        → ((l c : ℕ) → l + length s ≤ largest → c + length s < largest → lineCol (at l (suc c)) s ≡ at (l + linefeeds s) (suc (charactersSince c s)))
         → lineCol (if u (at (oneMore l) 1) (if v (at l (suc c)) (at l (oneMore (suc c))))) s ≡ at (l + if u (suc (linefeeds s)) (linefeeds s)) (suc (charactersSince (if u 0 (if v c (suc c))) s))
     go true v f =
         let q : suc l + linefeeds s ≡ l + suc (linefeeds s) = omega arith in

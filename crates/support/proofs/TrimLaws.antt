@@ -8,8 +8,8 @@ use mathlib.Core.Bool.{Bool, true, false}
 use lib.ListN.{length, take, drop}
 use Rattle.support.specs.Bytes.{Bytes, if}
 use Rattle.support.specs.Leading.{leading, dropFront, dropBack}
-use Rattle.support.specs.Utf8.{validLength}
 use Rattle.support.specs.WhiteSpace.{whiteLength, whiteLengthBack, trimStart, trimEnd}
+use Rattle.support.specs.Utf8.{Valid}
 use Rattle.support.specs.TextRules.{isBlank, blankLength, trimStartBlanks, trimEndBlanks, matchLength, trimStartMatches, trimEndMatches}
 use Rattle.support.proofs.Pieces.{front-twice, back-twice, front-finer, back-finer}
 use Rattle.support.proofs.Characters.{front-valid, back-valid}
@@ -88,19 +88,19 @@ blanks-then-end = back-finer blankLength whiteLengthBack blank-back
 
 -- ---- whole characters are cut
 
-module _ (s : Bytes) (valid : validLength s ≡ length s) where
-  pub start-valid : validLength (trimStart s) ≡ length (trimStart s)
+module _ (s : Bytes) (valid : Valid s) where
+  pub start-valid : Valid (trimStart s)
   unfolding trimStart
   start-valid = front-valid whiteLength white-char s valid .1
 
-  pub end-valid : validLength (trimEnd s) ≡ length (trimEnd s)
+  pub end-valid : Valid (trimEnd s)
   unfolding trimEnd
   end-valid = back-valid whiteLengthBack white-end s valid
 
-  pub start-blanks-valid : validLength (trimStartBlanks s) ≡ length (trimStartBlanks s)
+  pub start-blanks-valid : Valid (trimStartBlanks s)
   unfolding trimStartBlanks
   start-blanks-valid = front-valid blankLength (λ s n e. white-char s n (blank-front s n e)) s valid .1
 
-  pub end-blanks-valid : validLength (trimEndBlanks s) ≡ length (trimEndBlanks s)
+  pub end-blanks-valid : Valid (trimEndBlanks s)
   unfolding trimEndBlanks
   end-blanks-valid = back-valid blankLength (λ s n e. white-end s n (blank-back (reverse s) n e)) s valid
