@@ -1,0 +1,4 @@
+pub mod Span
+pub mod Path
+pub mod Answers
+pub mod ProvedSet

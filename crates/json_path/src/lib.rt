@@ -1,0 +1,4 @@
+// Spans from their words, and the paths of handlebars' src/json/path.rs. Every crate above reads
+// spans through these calls alone.
+pub mod path;
+pub mod span;
