@@ -1,0 +1,11 @@
+pub mod Bits
+pub mod Ranges
+pub mod Surrogates
+pub mod JsonSound
+pub mod JsonRuns
+pub mod Onward
+pub mod Decides
+pub mod ProvedSet
+pub mod ActLaws
+pub mod StateLaws
+pub mod QuoteLaws
