@@ -1,5 +1,4 @@
 -- Parts, equality and order of byte strings, and prefixes: the laws for code that reads byte by byte. Assumes nothing.
--- ---- parts past the end
 use Prim.Native.Nat.{ℕ, zero, suc, _+_, _-_, _≤_, _<_}
 use native.Mathlib.Omega.{arith}
 use native.Mathlib.Numerals.{add-one}
@@ -12,6 +11,8 @@ use lib.Seq.{take-nil, drop-cons, take-suc, take-all, length-take-le, drop-appen
 use borrow.Author.Tests.{eq-eqb, ne-eqb, eqb-true, lt-ltb, le-ltb}
 use Rattle.support.specs.Bytes.{Bytes, if, part, sameBytes, precedes, startsWith}
 use Rattle.support.proofs.Pieces.{from-here}
+
+-- ---- parts past the end
 
 module _ (t : Bytes) (a e : ℕ) where
   pub part-none : e < a → take 0 t ≡ part t a e

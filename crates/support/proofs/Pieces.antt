@@ -1,6 +1,5 @@
 -- Pieces at the front and at the end of a text, as a loop meets them that goes from one to the next. `Reached` says of an offset that
 -- whole pieces lead up to it; `ReachedBack` says the same of the text read backwards. Assumes nothing.
--- what `&s[i..]` and `&s[0..e]` are
 use Prim.Native.Nat.{ℕ, zero, suc, _+_, _-_, _≤_}
 use native.Mathlib.Omega.{arith}
 use native.Mathlib.Nat.{zero-add, suc-add}
@@ -11,6 +10,7 @@ use lib.Seq.{drop-at, drop-drop, take-all, take-length, take-take, length-take-l
 use Rattle.support.specs.Bytes.{Bytes}
 use Rattle.support.specs.Leading.{leadingFrom, leading, dropFront, dropBack}
 
+-- what `&s[i..]` and `&s[0..e]` are
 pub from-here : (s : Bytes) (i : ℕ) → take (length s - i) (drop i s) ≡ drop i s
 from-here s i = take-all (length s - i) (drop i s) (omega (arith, length-drop i s))
 

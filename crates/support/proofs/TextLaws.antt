@@ -1,5 +1,4 @@
 -- The text rules at an offset, as code that reads byte by byte meets them. Assumes nothing.
--- ---- the first newline
 use Prim.Native.Nat.{ℕ, _-_, _≤_, _<_}
 use native.Mathlib.Omega.{arith}
 use mathlib.Core.Path.{_≡_, refl, sym, ap, _∙_}
@@ -14,6 +13,8 @@ use Rattle.support.specs.Leading.{leading, dropBack}
 use Rattle.support.specs.TextRules.{isBlank, isNewline, blankLength, trimStartBlanks, trimEndBlanks, trailingBlanks, stripFirstNewline, startsWithNewline, startsWithEmptyLine, endsWithEmptyLine, matchLength}
 use Rattle.support.proofs.ByteLaws.{before-snoc}
 use Rattle.support.proofs.Pieces.{from-here}
+
+-- ---- the first newline
 
 pub strip-none : (s : Bytes) → length s ≡ 0 → s ≡ stripFirstNewline s
 unfolding stripFirstNewline

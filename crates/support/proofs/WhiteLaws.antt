@@ -1,6 +1,4 @@
 -- The White_Space character that a text starts or ends with, by its bytes. Assumes nothing.
--- ---- the list of encodings
--- the test passes at each
 use Prim.Native.Nat.{zero, ℕ, suc, _+_, _-_, _≤_, _<_}
 use native.Mathlib.Omega.{arith}
 use native.Mathlib.Numerals.{add-one}
@@ -20,6 +18,9 @@ use Rattle.support.proofs.Utf8Laws.{out-range}
 use Rattle.support.proofs.ByteLaws.{same-true, before-snoc}
 use Rattle.support.proofs.Pieces.{drop-reverse}
 
+-- ---- the list of encodings
+
+-- the test passes at each
 abbrev pub each : (Bytes → Bool) → List Bytes → Bool
 each f [] = true
 each f (p ∷ ps) = f p && each f ps

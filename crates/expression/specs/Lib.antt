@@ -1,0 +1,7 @@
+pub mod Expression
+pub mod Read
+pub mod Readers
+pub mod Total
+pub mod Answers
+pub mod Again
+pub mod Least
