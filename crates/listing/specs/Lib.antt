@@ -1,0 +1,7 @@
+pub mod Quoted
+pub mod Form
+pub mod Tree
+pub mod Reading
+pub mod Nesting
+pub mod Listing
+pub mod Written
