@@ -34,11 +34,8 @@ use Rattle.expression.specs.declared.again.MaybeParam.{MaybeParam}
 use Rattle.expression.specs.declared.again.MaybeParam.the-variants as MaybeParam
 use Rattle.expression.specs.declared.again.MaybeHash.{MaybeHash}
 use Rattle.expression.specs.declared.again.MaybeHash.the-variants as MaybeHash
+use Rattle.expression.proofs.Laws.{mapped-twice}
 use Rattle.expression.proofs.KeyLaws.{first, sorted-keys, first-least, others-above, none-above, lower-none, lower-lower}
-
-mapped-twice : {A B C : Type 0} (f : B → C) (g : A → B) (o : Read A) → mapped f (mapped g o) ≡ mapped (λ a. f (g a)) o
-mapped-twice f g (done a r) = refl
-mapped-twice f g (failed e) = refl
 
 mapped-same : {A B : Type 0} (f g : A → B) → ((a : A) → f a ≡ g a) → (o : Read A) → mapped f o ≡ mapped g o
 mapped-same f g h (done a r) = ap (λ b. done b r) (h a)

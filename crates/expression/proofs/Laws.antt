@@ -241,7 +241,7 @@ module _ (text : Bytes) (words : List ℕ) (p : Parts) where
 
 -- ---- all parts: of those read so far the last block parameter and the right tilde are kept
 
-mapped-twice : {A B C : Type 0} (f : B → C) (g : A → B) (o : Read A) → mapped f (mapped g o) ≡ mapped (λ a. f (g a)) o
+pub mapped-twice : {A B C : Type 0} (f : B → C) (g : A → B) (o : Read A) → mapped f (mapped g o) ≡ mapped (λ a. f (g a)) o
 mapped-twice f g (done a r) = refl
 mapped-twice f g (failed e) = refl
 

@@ -1,9 +1,7 @@
 // What parameters, expressions and their parts are made of: offsets into the text, and links.
 use json_path::path::Name;
 use json_path::path::Path;
-ghost use mathlib.Core.Path.{_≡_};
-ghost use Rattle.expression.specs.Expression.{asName};
-ghost use Rattle.expression.specs.Answers.{paramMeans, asNameMeans, NamesIs};
+ghost use Rattle.expression.specs.Answers.{NamesIs};
 
 // A literal's text: the text from `start` to `end`, or, if `quoted`, what that inner text of single
 // quotes stands for.
