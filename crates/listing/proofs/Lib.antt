@@ -6,3 +6,5 @@ pub mod ReadingInjective
 pub mod Writes
 pub mod PathWrites
 pub mod RequoteWrites
+pub mod Size
+pub mod ParamWrites

@@ -19,7 +19,7 @@ use Rattle.listing.proofs.Writes.{written-none, written-then, written-l
 -- ---- the bytes of a form
 
 -- `[word "t"` and what follows
-quote-head : (w : Word) (t x : Bytes) → writeHead w (quote t ∷ []) ++ x ≡ (ascii "[" ++ (spell w ++ ascii " ")) ++ (quoted t ++ x)
+pub quote-head : (w : Word) (t x : Bytes) → writeHead w (quote t ∷ []) ++ x ≡ (ascii "[" ++ (spell w ++ ascii " ")) ++ (quoted t ++ x)
 unfolding writeHead writeFields writeField
 quote-head w t x = simp (append-nil, append-assoc)
 
