@@ -17,7 +17,7 @@ ghost use Rattle.expression.specs.Readers.{readPath, readLiteral};
 ghost use Rattle.expression.specs.Answers.{OwnIs, ParamIs, literalRead};
 
 // A parameter's own span: one tag 28 in front of it is passed over.
-pub fn own_span(words: &[u32], at: usize) -> Next
+pub(crate) fn own_span(words: &[u32], at: usize) -> Next
     ensures { λ r. ⌜ OwnIs (now (words .entry)) at r ⌝ }
 {
     let n = next_span(words, at);
@@ -31,7 +31,7 @@ pub fn own_span(words: &[u32], at: usize) -> Next
 }
 
 // Tag 26.
-pub fn parse_path(text: &[u8], words: &[u32], s: Span, at: usize) -> ParamRead
+pub(crate) fn parse_path(text: &[u8], words: &[u32], s: Span, at: usize) -> ParamRead
     ensures { λ r. ⌜ ParamIs (now (text .entry)) (now (words .entry)) (readPath (now (text .entry)) s (spansFrom (now (words .entry)) at)) at r ⌝ }
 {
     let p = parse_json_path(text, words, s, at);
@@ -51,7 +51,7 @@ fn literal_of(v: Verdict, l: Literal, next: usize) -> ParamRead
 }
 
 // Tag 29 takes the next span; after a 30 one must follow, and a 31 there is taken and requoted.
-pub fn parse_literal(text: &[u8], words: &[u32], s: Span, at: usize) -> ParamRead
+pub(crate) fn parse_literal(text: &[u8], words: &[u32], s: Span, at: usize) -> ParamRead
     ensures { λ r. ⌜ ParamIs (now (text .entry)) (now (words .entry)) (readLiteral (now (text .entry)) s (spansFrom (now (words .entry)) at)) at r ⌝ }
 {
     let n = next_span(words, at);

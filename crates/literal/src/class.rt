@@ -3,7 +3,7 @@ ghost use mathlib.Core.Path.{_≡_};
 ghost use Rattle.literal.specs.Json.{isSpace, isDigit, isHex, isEscaped};
 ghost use Rattle.literal.specs.Scan.{isD, isHighSecond, isLowSecond};
 
-pub fn is_space(c: u8) -> bool
+pub(crate) fn is_space(c: u8) -> bool
     ensures { λ r. ⌜ r ≡ isSpace c ⌝ }
 {
     match c {
@@ -12,7 +12,7 @@ pub fn is_space(c: u8) -> bool
     }
 }
 
-pub fn is_digit(c: u8) -> bool
+pub(crate) fn is_digit(c: u8) -> bool
     ensures { λ r. ⌜ r ≡ isDigit c ⌝ }
 {
     match c {
@@ -21,7 +21,7 @@ pub fn is_digit(c: u8) -> bool
     }
 }
 
-pub fn is_hex(c: u8) -> bool
+pub(crate) fn is_hex(c: u8) -> bool
     ensures { λ r. ⌜ r ≡ isHex c ⌝ }
 {
     match c {
@@ -31,7 +31,7 @@ pub fn is_hex(c: u8) -> bool
 }
 
 // What may follow a backslash, besides `u`.
-pub fn is_escaped(c: u8) -> bool
+pub(crate) fn is_escaped(c: u8) -> bool
     ensures { λ r. ⌜ r ≡ isEscaped c ⌝ }
 {
     match c {
@@ -41,7 +41,7 @@ pub fn is_escaped(c: u8) -> bool
 }
 
 // The first digit of a surrogate.
-pub fn is_d(c: u8) -> bool
+pub(crate) fn is_d(c: u8) -> bool
     ensures { λ r. ⌜ r ≡ isD c ⌝ }
 {
     match c {
@@ -51,7 +51,7 @@ pub fn is_d(c: u8) -> bool
 }
 
 // The second digit of a high surrogate.
-pub fn is_high_second(c: u8) -> bool
+pub(crate) fn is_high_second(c: u8) -> bool
     ensures { λ r. ⌜ r ≡ isHighSecond c ⌝ }
 {
     match c {
@@ -61,7 +61,7 @@ pub fn is_high_second(c: u8) -> bool
 }
 
 // The second digit of a low surrogate.
-pub fn is_low_second(c: u8) -> bool
+pub(crate) fn is_low_second(c: u8) -> bool
     ensures { λ r. ⌜ r ≡ isLowSecond c ⌝ }
 {
     match c {
