@@ -8,3 +8,4 @@ pub mod PathWrites
 pub mod RequoteWrites
 pub mod Size
 pub mod ParamWrites
+pub mod ChildWrites

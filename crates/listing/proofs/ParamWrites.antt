@@ -7,11 +7,13 @@ use mathlib.Core.List.{List, [], _++_, append-nil, append-assoc}
 use mathlib.Core.Bool.{true, false}
 use lib.ListN.{length}
 use Rattle.support.specs.Bytes.{Bytes, ascii, part}
+use Rattle.json_path.specs.Span.{spansFrom}
 use Rattle.json_path.specs.Answers.{nameMeans}
 use Rattle.literal.specs.Requote.{requoted}
 use Rattle.expression.specs.Expression.{Param, name, literal, subexpression, Call, call, Params, noParams, param, Keys, noKeys, key, paramsOf, keysOf}
-use Rattle.expression.specs.Read.{readOr, mapped, Readable, Reads}
-use Rattle.expression.specs.Answers.{literalMeans, paramMeans, partsRead, paramsRead, keysRead, callMeans}
+use Rattle.expression.specs.Read.{Fault, failed, readOr, mapped, Readable, Reads}
+use Rattle.expression.specs.Readers.{readExpression}
+use Rattle.expression.specs.Answers.{literalMeans, callOr, paramMeans, partsRead, paramsRead, keysRead, callMeans}
 use Rattle.expression.specs.Again.{ParamStepIs, KeyStepIs, keysLeft, Entered}
 use Rattle.expression.specs.declared.parameter.Parameter.{Parameter}
 use Rattle.expression.specs.declared.parameter.Parameter.the-variants as Parameter
@@ -24,8 +26,8 @@ use Rattle.expression.specs.declared.again.ParamStep.the-variants as ParamStep
 use Rattle.expression.specs.declared.again.Bound.{Bound}
 use Rattle.expression.specs.declared.again.Bound.the-variants as Bound
 use Rattle.expression.specs.declared.again.KeyStep.the-variants as KeyStep
-use Rattle.listing.specs.Quoted.{quoted}
-use Rattle.listing.specs.Form.{Word, writeHead, writeFields, Forms, nil, writeForm, writeForms}
+use Rattle.listing.specs.Quoted.{quoted, escaped}
+use Rattle.listing.specs.Form.{Word, writeField, writeHead, writeFields, Forms, nil, writeForm, writeForms}
 use Rattle.listing.specs.Listing.{paramForm, callForms, paramForms, keyForms}
 use Rattle.listing.specs.Written.{largest, Written}
 use Rattle.expression.proofs.Lists.{params-known, keys-known, call-known, params-next, params-end, keys-next, keys-end}
@@ -47,7 +49,7 @@ pub sub-bytes : (c : Call) → writeForm (paramForm (subexpression c)) ≡ ascii
 unfolding paramForm writeForm writeHead writeFields
 sub-bytes c = refl
 
-params-join : (ps : Params) (rest : Forms) → writeForms (paramForms ps rest) ≡ writeForms (paramForms ps nil) ++ writeForms rest
+pub params-join : (ps : Params) (rest : Forms) → writeForms (paramForms ps rest) ≡ writeForms (paramForms ps nil) ++ writeForms rest
 unfolding paramForm writeForm
 params-join noParams rest = refl
 params-join (param p ps) rest = ap (writeForm (paramForm p) ++_) (params-join ps rest) ∙ sym (append-assoc (writeForm (paramForm p)) (writeForms (paramForms ps nil)) (writeForms rest))
@@ -67,6 +69,11 @@ key-bytes k v ks =
     ap (ascii "[key " ++_) a ∙ sym (append-assoc (ascii "[key ") (quoted k ++ ascii "\n") (f ++ ascii "]\n")) in
     ap (_++ writeForms (keyForms ks nil))
     (quote-head Word.key k (ascii "\n" ++ ((f ++ []) ++ ascii "]\n")) ∙ (ap (λ s. ascii "[key " ++ (quoted k ++ (ascii "\n" ++ (s ++ ascii "]\n")))) (append-nil f) ∙ b))
+
+pub hash-bytes : (k : Bytes) (v : Param)
+    → writeForms (keyForms (key k v noKeys) nil) ≡ (ascii "[key " ++ (quoted k ++ ascii "\n")) ++ (writeForm (paramForm v) ++ ascii "]\n")
+unfolding paramForm writeForm
+hash-bytes k v = key-bytes k v noKeys ∙ append-nil _
 
 -- ---- a parameter told by its case
 
@@ -91,6 +98,14 @@ pub sub-written : {text : Bytes} {words : List ℕ} {s : Subexpression} {x : Exp
     → Written (ascii "[sub\n") l at m p → Written (writeForms (callForms (callMeans text words (x .name) (x .parts)) nil)) m p n q → Written (ascii "]\n") n q k r
     → Written (writeForm (paramForm (paramMeans text words (Parameter.Subexpression s)))) l at k r
 sub-written {l = l} {k = k} {at = at} {r = r} i h a b c = subst (λ z. Written (writeForm (paramForm z)) l at k r) (sym (i .means)) (rw (sub-bytes _) (three h a b c))
+
+-- a link that cannot be read: an empty call
+pub sub-empty : (text : Bytes) (words : List ℕ) (s : Subexpression) {e : Fault} {l m : Bytes} {at r : ℕ}
+    → readExpression text (s .depth) (s .limit) (spansFrom words (s .from)) ≡ failed e
+    → Written (ascii "[sub\n[name \"\"]\n]\n") l at m r
+    → Written (writeForm (paramForm (paramMeans text words (Parameter.Subexpression s)))) l at m r
+unfolding paramMeans paramForm writeForm writeHead writeFields writeField quoted escaped
+sub-empty text words s {l = l} {m = m} {at = at} {r = r} e w = subst (λ o. Written (writeForm (paramForm (subexpression (callOr o)))) l at m r) (sym e) w
 
 -- ---- sizes
 

@@ -5,3 +5,4 @@ pub mod Reading
 pub mod Nesting
 pub mod Listing
 pub mod Written
+pub mod Children

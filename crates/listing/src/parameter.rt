@@ -1,5 +1,5 @@
 // Parameters, keys and subexpressions: the children that an expression gives, read again from its
-// links. A link that a reader answered can be read again; the functions in the cycle ask for that.
+// links.
 use crate::path::write_path;
 use crate::requote::write_requoted;
 use crate::write::put_bytes;
@@ -11,6 +11,7 @@ use expression::again::enter;
 use expression::again::next_key;
 use expression::again::next_param;
 use expression::parameter::ExpressionRead;
+use expression::parameter::Hash;
 use expression::parameter::Literal;
 use expression::parameter::Parameter;
 use expression::parameter::Parts;
@@ -20,16 +21,16 @@ use support::bytes::part;
 ghost use mathlib.Core.List.{_++_};
 ghost use Rattle.support.specs.Bytes.{ascii};
 ghost use Rattle.json_path.specs.Answers.{nameMeans};
-ghost use Rattle.expression.specs.Expression.{name, literal, noParams, noKeys};
+ghost use Rattle.expression.specs.Expression.{name, literal, noParams, noKeys, key};
 ghost use Rattle.expression.specs.Read.{readOr, Readable};
-ghost use Rattle.expression.specs.Answers.{literalMeans, paramMeans, paramLinked, partsRead, paramsRead, keysRead, callMeans};
+ghost use Rattle.expression.specs.Answers.{literalMeans, paramMeans, partsRead, paramsRead, keysRead, callMeans};
 ghost use Rattle.expression.specs.declared.parameter.Parameter.the-variants as Parameter;
 ghost use Rattle.listing.specs.Quoted.{quoted};
 ghost use Rattle.listing.specs.Form.{nil, writeForm, writeForms};
 ghost use Rattle.listing.specs.Listing.{paramForm, callForms, paramForms, keyForms};
 ghost use Rattle.listing.specs.Written.{Written};
 
-fn write_name(out: &mut [u8], at: usize, text: &[u8], n: Name) -> usize
+pub fn write_name(out: &mut [u8], at: usize, text: &[u8], n: Name) -> usize
     ensures { λ r. ⌜ Written (writeForm (paramForm (name (nameMeans (now (text .entry)) n)))) (now (out .entry)) at (now (out .exit)) r ⌝ }
 {
     let p = put_bytes(out, at, b"[name ");
@@ -48,7 +49,7 @@ fn write_kept(out: &mut [u8], at: usize, text: &[u8], l: Literal) -> usize
     write_part(out, at, text, l.start, l.end)
 }
 
-fn write_literal(out: &mut [u8], at: usize, text: &[u8], l: Literal) -> usize
+pub fn write_literal(out: &mut [u8], at: usize, text: &[u8], l: Literal) -> usize
     ensures { λ r. ⌜ Written (writeForm (paramForm (literal (literalMeans (now (text .entry)) l)))) (now (out .entry)) at (now (out .exit)) r ⌝ }
 {
     let p = put_bytes(out, at, b"[lit ");
@@ -65,8 +66,7 @@ fn write_key(out: &mut [u8], at: usize, text: &[u8], k: Name) -> usize
     put_bytes(out, q, b"\n")
 }
 
-fn write_param(out: &mut [u8], at: usize, text: &[u8], words: &[u32], v: Parameter) -> usize
-    requires { ⌜ paramLinked (now text) (now words) v ⌝ }
+pub fn write_param(out: &mut [u8], at: usize, text: &[u8], words: &[u32], v: Parameter) -> usize
     ensures { λ r. ⌜ Written (writeForm (paramForm (paramMeans (now (text .entry)) (now (words .entry)) v))) (now (out .entry)) at (now (out .exit)) r ⌝ }
 {
     match v {
@@ -77,6 +77,7 @@ fn write_param(out: &mut [u8], at: usize, text: &[u8], words: &[u32], v: Paramet
     }
 }
 
+// A link that cannot be read denotes an empty call.
 fn write_subexpression(
     out: &mut [u8],
     at: usize,
@@ -84,12 +85,11 @@ fn write_subexpression(
     words: &[u32],
     s: Subexpression,
 ) -> usize
-    requires { ⌜ paramLinked (now text) (now words) (Parameter.Subexpression s) ⌝ }
     ensures { λ r. ⌜ Written (writeForm (paramForm (paramMeans (now (text .entry)) (now (words .entry)) (Parameter.Subexpression s)))) (now (out .entry)) at (now (out .exit)) r ⌝ }
 {
     let r = enter(text, words, s);
     let ExpressionRead::Done(x) = r else {
-        return at;
+        return put_bytes(out, at, b"[sub\n[name \"\"]\n]\n");
     };
     let name = x.name;
     let parts = x.parts;
@@ -98,8 +98,9 @@ fn write_subexpression(
     put_bytes(out, q, b"]\n")
 }
 
-// Name, parameters, keys in byte order.
-fn write_call(
+// Name, parameters, keys in byte order. A link that a reader answered can be read again: these three
+// ask for that, so that `Failed` does not occur in them.
+pub(crate) fn write_call(
     out: &mut [u8],
     at: usize,
     text: &[u8],
@@ -107,7 +108,7 @@ fn write_call(
     name: Parameter,
     parts: Parts,
 ) -> usize
-    requires { ⌜ paramLinked (now text) (now words) name × Readable (partsRead (now text) (now words) parts) ⌝ }
+    requires { ⌜ Readable (partsRead (now text) (now words) parts) ⌝ }
     ensures { λ r. ⌜ Written (writeForms (callForms (callMeans (now (text .entry)) (now (words .entry)) name parts) nil)) (now (out .entry)) at (now (out .exit)) r ⌝ }
 {
     let p = write_param(out, at, text, words, name);
@@ -163,4 +164,15 @@ fn write_keys(out: &mut [u8], at: usize, text: &[u8], words: &[u32], parts: Part
             }
         }
     }
+}
+
+// A key with its value.
+pub fn write_hash(out: &mut [u8], at: usize, text: &[u8], words: &[u32], h: Hash) -> usize
+    ensures { λ r. ⌜ Written (writeForms (keyForms (key (nameMeans (now (text .entry)) (h .key)) (paramMeans (now (text .entry)) (now (words .entry)) (h .value)) noKeys) nil)) (now (out .entry)) at (now (out .exit)) r ⌝ }
+{
+    let key = h.key;
+    let value = h.value;
+    let p = write_key(out, at, text, key);
+    let q = write_param(out, p, text, words, value);
+    put_bytes(out, q, b"]\n")
 }

@@ -9,9 +9,8 @@ use borrow.Fn.PlainCycle.{Measures, is, falls, and}
 use Rattle.listing.specs.Listing.{paramForm}
 use Rattle.expression.specs.declared.parameter.Parameter.the-variants as Parameter
 use Rattle.expression.specs.declared.again.Bound.the-variants as Bound
-use Rattle.expression.specs.Answers.{paramMeans, callMeans, paramLinked}
-use Rattle.expression.specs.Again.{SubexpressionIs}
-use Rattle.expression.proofs.Lists.{params-read, keys-read, always-entered}
+use Rattle.expression.specs.Answers.{paramMeans, callMeans}
+use Rattle.expression.proofs.Lists.{params-read, keys-read}
 use Rattle.expression.proofs.Cases as cases
 use Rattle.listing.proofs.Size.{paramSize, callSize}
 use Rattle.listing.proofs.ParamWrites as params
@@ -122,7 +121,7 @@ write-call-write-param-requires : (t : ℕ) → write-call-lts.Need-write-param-
 write-call-write-param-requires t c κs =
     let a = c .before .before .before .before .args in
     let pre = c .before .before .before .before .pre in
-    let e = params.call-size (a .text .now) (a .words .now) (a .name) (a .parts) (pre .1 .1) in (omega (arith, pre .0), pre .1 .0)
+    let e = params.call-size (a .text .now) (a .words .now) (a .name) (a .parts) (pre .1) in (omega (arith, pre .0), tt)
 
 write-call-write-params-requires : (t : ℕ) → write-call-lts.Need-write-params-requires (
   write-param-below t,
@@ -135,7 +134,7 @@ write-call-write-params-requires : (t : ℕ) → write-call-lts.Need-write-param
 write-call-write-params-requires t c κs =
     let a = c .before .before .before .before .before .before .before .before .args in
     let pre = c .before .before .before .before .before .before .before .before .pre in
-    let e = params.call-size (a .text .now) (a .words .now) (a .name) (a .parts) (pre .1 .1) in (omega (arith, pre .0), pre .1 .1)
+    let e = params.call-size (a .text .now) (a .words .now) (a .name) (a .parts) (pre .1) in (omega (arith, pre .0), pre .1)
 
 write-call-write-keys-requires : (t : ℕ) → write-call-lts.Need-write-keys-requires (
   write-param-below t,
@@ -148,7 +147,7 @@ write-call-write-keys-requires : (t : ℕ) → write-call-lts.Need-write-keys-re
 write-call-write-keys-requires t c κs =
     let a = c .before .before .before .before .before .before .before .before .before .before .before .before .args in
     let pre = c .before .before .before .before .before .before .before .before .before .before .before .before .pre in
-    let e = params.call-size (a .text .now) (a .words .now) (a .name) (a .parts) (pre .1 .1) in (omega (arith, pre .0), pre .1 .1)
+    let e = params.call-size (a .text .now) (a .words .now) (a .name) (a .parts) (pre .1) in (omega (arith, pre .0), pre .1)
 
 write-call-same-length : (t : ℕ) → write-call-lts.Need-same-length (
   write-param-below t,
@@ -253,7 +252,7 @@ write-keys-write-param-requires t c κs =
     let l = c .before .before .before .before .before .before .before .before .before .before .loop in
     let pre = c .before .before .before .before .before .before .before .before .before .before .before .before .before .before .pre in
     let i = (cases.key-found (n .given .1) (next-key .ensures)) in let l = params.keys-less (l .inv) i in
-    (omega (arith, pre .0), i .means .linked)
+    (omega (arith, pre .0), tt)
 
 write-keys-slice-aggregate-put-bytes : (t : ℕ) → write-keys-lts.Need-slice-aggregate-put-bytes (
   next-key-reads.Asked,
@@ -491,7 +490,7 @@ write-param-write-subexpression-requires t c κs =
     let v4 = c .before .before .v4 in
     let pre = c .before .before .before .before .before .before .before .pre in
     let e = ap (λ z. paramSize (paramMeans (a .text .now) (a .words .now) z)) (v4 .given .1) in
-    (omega (arith, pre .0), subst (λ z. paramLinked (a .text .now) (a .words .now) z) (v4 .given .1) (pre .1))
+    (omega (arith, pre .0), tt)
 
 write-param-same-length : (t : ℕ) → write-param-lts.Need-same-length (
   write-name-reads.Asked,
@@ -648,7 +647,7 @@ write-params-write-param-requires t c κs =
     let l = c .before .before .before .before .before .loop in
     let pre = c .before .before .before .before .before .before .before .before .before .pre in
     let i = (cases.step-found (c .before .before .n .given .1) (next-param .ensures)) in let l = params.params-less (l .inv) i in
-    (omega (arith, pre .0), i .means .linked)
+    (omega (arith, pre .0), tt)
 
 write-params-loop-less : (t : ℕ) → write-params-lts.Need-loop-less (
   next-param-reads.Asked,
@@ -757,7 +756,7 @@ write-subexpression-enum-told : (t : ℕ) → write-subexpression-lts.Need-enum-
 ) (write-subexpression-at t) write-subexpression.Post
 write-subexpression-enum-told t c = search needs
 
-write-subexpression-returns : (t : ℕ) → write-subexpression-lts.Need-returns (
+write-subexpression-slice-aggregate-put-bytes : (t : ℕ) → write-subexpression-lts.Need-slice-aggregate-put-bytes (
   enter-reads.Asked,
   enter-reads.Learnt,
   put-bytes-reads.Asked,
@@ -765,23 +764,6 @@ write-subexpression-returns : (t : ℕ) → write-subexpression-lts.Need-returns
   write-call-below t,
   write-call.Post,
 ) (write-subexpression-at t) write-subexpression.Post
-write-subexpression-returns t c =
-    let pre = c .before .before .before .before .before .before .pre in
-    let a = c .before .before .before .before .before .before .args in
-    absurd
-    (always-entered (pre .1)
-    (subst (λ z. SubexpressionIs (a .text .now) (a .words .now) (a .s) z) (c .enum-told .given .1)
-    (c .before .before .enter .ensures)))
-
-write-subexpression-slice-aggregate-put-bytes :
-    (t : ℕ) → write-subexpression-lts.Need-slice-aggregate-put-bytes (
-      enter-reads.Asked,
-      enter-reads.Learnt,
-      put-bytes-reads.Asked,
-      put-bytes-reads.Learnt,
-      write-call-below t,
-      write-call.Post,
-    ) (write-subexpression-at t) write-subexpression.Post
 write-subexpression-slice-aggregate-put-bytes t c = search needs
 
 write-subexpression-put-bytes-requires : (t : ℕ) → write-subexpression-lts.Need-put-bytes-requires (
@@ -793,6 +775,51 @@ write-subexpression-put-bytes-requires : (t : ℕ) → write-subexpression-lts.N
   write-call.Post,
 ) (write-subexpression-at t) write-subexpression.Post
 write-subexpression-put-bytes-requires t c κs = search needs
+
+write-subexpression-same-length : (t : ℕ) → write-subexpression-lts.Need-same-length (
+  enter-reads.Asked,
+  enter-reads.Learnt,
+  put-bytes-reads.Asked,
+  put-bytes-reads.Learnt,
+  write-call-below t,
+  write-call.Post,
+) (write-subexpression-at t) write-subexpression.Post
+write-subexpression-same-length t c = writes.written-length (c .before .before .put-bytes .ensures)
+
+write-subexpression-returns : (t : ℕ) → write-subexpression-lts.Need-returns (
+  enter-reads.Asked,
+  enter-reads.Learnt,
+  put-bytes-reads.Asked,
+  put-bytes-reads.Learnt,
+  write-call-below t,
+  write-call.Post,
+) (write-subexpression-at t) write-subexpression.Post
+write-subexpression-returns t c =
+    let enum-told = c .before .before .before .before .before .enum-told in
+    let enter = c .before .before .before .before .before .before .before .enter in
+    let a = c .before .before .before .before .before .before .before .before .before .before .before .args in
+    params.sub-empty (a .text .now) (a .words .now) (a .s) (cases.not-entered (enum-told .given .1) (enter .ensures)) (c .before .before .put-bytes .ensures)
+
+write-subexpression-slice-aggregate-put-bytes-2 :
+    (t : ℕ) → write-subexpression-lts.Need-slice-aggregate-put-bytes-2 (
+      enter-reads.Asked,
+      enter-reads.Learnt,
+      put-bytes-reads.Asked,
+      put-bytes-reads.Learnt,
+      write-call-below t,
+      write-call.Post,
+    ) (write-subexpression-at t) write-subexpression.Post
+write-subexpression-slice-aggregate-put-bytes-2 t c = search needs
+
+write-subexpression-put-bytes-requires-2 : (t : ℕ) → write-subexpression-lts.Need-put-bytes-requires-2 (
+  enter-reads.Asked,
+  enter-reads.Learnt,
+  put-bytes-reads.Asked,
+  put-bytes-reads.Learnt,
+  write-call-below t,
+  write-call.Post,
+) (write-subexpression-at t) write-subexpression.Post
+write-subexpression-put-bytes-requires-2 t c κs = search needs
 
 write-subexpression-write-call-requires :
     (t : ℕ) → write-subexpression-lts.Need-write-call-requires (
@@ -808,10 +835,10 @@ write-subexpression-write-call-requires t c κs =
     let enter = c .before .before .before .before .before .before .before .before .before .before .enter in
     let pre = c .before .before .before .before .before .before .before .before .before .before .before .before .before .before .pre in
     let i = (cases.entered (r .given .1) (enter .ensures)) in let e = params.sub-size i in
-    (omega (arith, pre .0), (i .linked .name, i .linked .parts))
+    (omega (arith, pre .0), i .linked .parts)
 
-write-subexpression-slice-aggregate-put-bytes-2 :
-    (t : ℕ) → write-subexpression-lts.Need-slice-aggregate-put-bytes-2 (
+write-subexpression-slice-aggregate-put-bytes-3 :
+    (t : ℕ) → write-subexpression-lts.Need-slice-aggregate-put-bytes-3 (
       enter-reads.Asked,
       enter-reads.Learnt,
       put-bytes-reads.Asked,
@@ -819,10 +846,10 @@ write-subexpression-slice-aggregate-put-bytes-2 :
       write-call-below t,
       write-call.Post,
     ) (write-subexpression-at t) write-subexpression.Post
-write-subexpression-slice-aggregate-put-bytes-2 t c = search needs
+write-subexpression-slice-aggregate-put-bytes-3 t c = search needs
 
-write-subexpression-put-bytes-requires-2 :
-    (t : ℕ) → write-subexpression-lts.Need-put-bytes-requires-2 (
+write-subexpression-put-bytes-requires-3 :
+    (t : ℕ) → write-subexpression-lts.Need-put-bytes-requires-3 (
       enter-reads.Asked,
       enter-reads.Learnt,
       put-bytes-reads.Asked,
@@ -830,9 +857,9 @@ write-subexpression-put-bytes-requires-2 :
       write-call-below t,
       write-call.Post,
     ) (write-subexpression-at t) write-subexpression.Post
-write-subexpression-put-bytes-requires-2 t c κs = search needs
+write-subexpression-put-bytes-requires-3 t c κs = search needs
 
-write-subexpression-same-length : (t : ℕ) → write-subexpression-lts.Need-same-length (
+write-subexpression-same-length-2 : (t : ℕ) → write-subexpression-lts.Need-same-length-2 (
   enter-reads.Asked,
   enter-reads.Learnt,
   put-bytes-reads.Asked,
@@ -840,10 +867,10 @@ write-subexpression-same-length : (t : ℕ) → write-subexpression-lts.Need-sam
   write-call-below t,
   write-call.Post,
 ) (write-subexpression-at t) write-subexpression.Post
-write-subexpression-same-length t c =
+write-subexpression-same-length-2 t c =
     let write-call = c .before .before .before .before .before .before .before .write-call in
-    let put-bytes = c .before .before .before .before .before .before .before .before .before .before .before .put-bytes in
-    writes.written-length (c .before .before .put-bytes2 .ensures)
+    let put-bytes = c .before .before .before .before .before .before .before .before .before .before .before .put-bytes2 in
+    writes.written-length (c .before .before .put-bytes3 .ensures)
     ∙ writes.written-length (write-call .ensures)
     ∙ writes.written-length (put-bytes .ensures)
 
@@ -859,10 +886,10 @@ write-subexpression-returns-2 t c =
     let r = c .before .before .before .before .before .before .before .before .before .before .before .before .before .before .before .before .r in
     let enter = c .before .before .before .before .before .before .before .before .before .before .before .before .before .before .before .before .before .before .enter in
     let good = c .before .before .before .before .before .before .before .before .before .before .before .before .before .before .before .before .before .before .before .before .before .before .good in
-    let put-bytes = c .before .before .before .before .before .before .before .before .before .before .before .put-bytes in
+    let put-bytes = c .before .before .before .before .before .before .before .before .before .before .before .put-bytes2 in
     let write-call = c .before .before .before .before .before .before .before .write-call in
     params.sub-written (cases.entered (r .given .1) (enter .ensures)) (omega (arith, good .0 .0)) (put-bytes .ensures)
-    (write-call .ensures) (c .before .before .put-bytes2 .ensures)
+    (write-call .ensures) (c .before .before .put-bytes3 .ensures)
 
 pub +write-call+write-keys+write-param+write-params+write-subexpression-spec :
     {M : Type 1} → statement M
@@ -980,11 +1007,14 @@ pub +write-call+write-keys+write-param+write-params+write-subexpression-spec :
     (write-subexpression-enter-requires t)
     (write-subexpression-enum-known-r t)
     (write-subexpression-enum-told t)
-    (write-subexpression-returns t)
     (write-subexpression-slice-aggregate-put-bytes t)
     (write-subexpression-put-bytes-requires t)
-    (write-subexpression-write-call-requires t)
+    (write-subexpression-same-length t)
+    (write-subexpression-returns t)
     (write-subexpression-slice-aggregate-put-bytes-2 t)
     (write-subexpression-put-bytes-requires-2 t)
-    (write-subexpression-same-length t)
+    (write-subexpression-write-call-requires t)
+    (write-subexpression-slice-aggregate-put-bytes-3 t)
+    (write-subexpression-put-bytes-requires-3 t)
+    (write-subexpression-same-length-2 t)
     (write-subexpression-returns-2 t)
