@@ -1,0 +1,11 @@
+pub mod Kind
+pub mod State
+pub mod Result
+pub mod Checks
+pub mod Nests
+pub mod Escapes
+pub mod TagExpression
+pub mod Refusal
+pub mod Step
+pub mod Walk
+pub mod Compile
