@@ -9,3 +9,5 @@ pub mod Refusal
 pub mod Step
 pub mod Walk
 pub mod Compile
+pub mod Order
+pub mod Reason
