@@ -4,3 +4,6 @@ pub mod Decides
 pub mod SpanReasons
 pub mod WalkEquations
 pub mod Answers
+pub mod Numbers
+pub mod OneListing
+pub mod ProvedSet

@@ -11,3 +11,6 @@ pub mod Walk
 pub mod Compile
 pub mod Order
 pub mod Reason
+pub mod Input
+pub mod Total
+pub mod ProvedSet
