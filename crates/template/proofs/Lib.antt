@@ -3,7 +3,10 @@ pub mod Steps
 pub mod Decides
 pub mod SpanReasons
 pub mod WalkEquations
+pub mod WalkReasons
+pub mod CheckReasons
 pub mod Answers
 pub mod Numbers
 pub mod OneListing
 pub mod ProvedSet
+pub mod OneFault

@@ -4,7 +4,7 @@ use native.Mathlib.Omega.{arith}
 use mathlib.Core.Path.{_≡_, refl, sym, ap, subst, _∙_}
 use mathlib.Core.Logic.{_⊎_, inl, inr}
 use mathlib.Core.List.{List}
-use mathlib.Core.Bool.{Bool, true, false}
+use mathlib.Core.Bool.{Bool}
 use lib.Dec.{T}
 use lib.ListN.{length}
 use Rattle.support.specs.Bytes.{Bytes}
@@ -13,17 +13,17 @@ use Rattle.expression.specs.Expression.{Expression}
 use Rattle.expression.specs.Read.{Fault, ended, notAllowed, invalidLiteral, overLimit, exhausted, faultNumber, Read, done, failed}
 use Rattle.template.specs.Kind.{Plain, Tag, Kind, plain, tagged, kindOf}
 use Rattle.template.specs.State.{State}
-use Rattle.template.specs.Result.{Result, accepted, refused, andThen, refuseIf}
+use Rattle.template.specs.Result.{Result, accepted}
 use Rattle.template.specs.Nests.{startsEarly, outOfNesting}
 use Rattle.template.specs.Escapes.{faultyEscape}
 use Rattle.template.specs.TagExpression.{readTag}
 use Rattle.template.specs.Refusal.{faultPlace, accept, tooManyOpen, helperNameDiffers, decoratorNameDiffers}
 use Rattle.template.specs.Step.{plainStep, tagStep}
 use Rattle.template.specs.Walk.{walkPlain, walkTag, walkKind, walkSpan}
-use Rattle.template.specs.Order.{order, countBefore, turn, Before, First}
+use Rattle.template.specs.Order.{order, countBefore, turn, Before}
 use Rattle.template.specs.Reason.{PlainReason, TagReason, KindReason, SpanReason, Makes}
 use Rattle.template.proofs.Steps.{tag-not-exhausted, tag-shorter}
-use Rattle.template.proofs.Decides.{Decides, not-both, then-accepted, passed, accepted-iff, decides-as, Asks, decides-if, None, decides-none, Joins, decides-then, Or, decides-ask, at-place, asked-later}
+use Rattle.template.proofs.Decides.{Decides, not-both, then-accepted, passed, accepted-iff, decides-as, Asks, None, decides-none, decides-then, Or, decides-ask, at-place, asked-later}
 
 -- an expression meets the fault e
 abbrev Meets : {A : Type 0} → ℕ → Span → Read A → ℕ → ℕ → Type 0

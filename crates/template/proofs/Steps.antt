@@ -8,9 +8,9 @@ use lib.ListN.{length}
 use Rattle.support.specs.Bytes.{Bytes}
 use Rattle.json_path.specs.Span.{Span}
 use Rattle.expression.specs.Expression.{Expression}
-use Rattle.expression.specs.Read.{exhausted, Read, done, failed, Reader}
+use Rattle.expression.specs.Read.{exhausted, Read, done, failed}
 use Rattle.expression.specs.Readers.{maxSubexpressions, readName}
-use Rattle.expression.proofs.Fuel.{Good, Fine, fine-then, fine-pure, fine-more, fine-tilde, name-good, expression-good}
+use Rattle.expression.proofs.Fuel.{Good, Fine, fine-then, fine-pure, fine-tilde, name-good, expression-good}
 use Rattle.template.specs.Kind.{Tag, blockStart, invertTag, invertChainTag, expression, htmlExpression, decoratorExpression, partialExpression, blockEnd}
 use Rattle.template.specs.TagExpression.{readOwn, readChain, readTag}
 
