@@ -36,6 +36,7 @@ pub data TagReason (text : Bytes) (words : List ℕ) (k : Tag) (st : State) (s :
   helperNameDiffers10 : (x : Expression) (r′ : List Span) → readTag text k s r ≡ done x r′ → T (helperNameDiffers k st x) → TagReason text words k st s r 10 (s .number)
   decoratorNameDiffers11 : (x : Expression) (r′ : List Span) → readTag text k s r ≡ done x r′ → T (decoratorNameDiffers k st x) → TagReason text words k st s r 11 (s .number)
 
+-- against either
 abbrev pub KindReason : Bytes → List ℕ → Kind → State → Span → List Span → ℕ → ℕ → Type 0
 KindReason text words (plain k) st s r n p = PlainReason text words k st s n p
 KindReason text words (tagged k) st s r n p = TagReason text words k st s r n p

@@ -76,6 +76,7 @@ module _ (text : Bytes) (words : List ℕ) (preventIndent isPartial : Bool) wher
   unfoldable pub addComment : Bytes → State → Span → State
   addComment t st s = addItem s (T.comment t) (processStandalone true s (takeGap s st))
 
+  -- what each of them does
   unfoldable pub plainStep : Plain → State → Span → State
   plainStep K.skipped st s = withEndPos (s .end) (takeGap s st)
   plainStep K.template st s = withStage filling st
@@ -131,5 +132,6 @@ module _ (text : Bytes) (words : List ℕ) (preventIndent isPartial : Bool) wher
   tagEffect K.partialExpression s x st = addItem s (T.partial (indentMark s x) (indent s x) (x .callOf)) st
   tagEffect (K.blockEnd k) s x st = closeBlock st
 
+  -- and in all; the tag becomes the previous span
   unfoldable pub tagStep : Tag → State → Span → Expression → State
   tagStep k st s x = withEndPos (s .end) (tagEffect k s x (tagTrims k st s x))

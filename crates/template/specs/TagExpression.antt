@@ -11,6 +11,7 @@ use Rattle.template.specs.Kind.{Tag, blockStart, invertTag, invertChainT
 abbrev pub withOmitPreWs : Bool → Expression → Expression
 withOmitPreWs left x = record { omitPreWs = left || x .omitPreWs; callOf = x .callOf; blockParam = x .blockParam; omitProWs = x .omitProWs }
 
+-- an expression up to the tag's end
 abbrev pub readOwn : Bytes → Span → Reader Expression
 readOwn text s = readExpression text maxSubexpressions (s .end)
 
@@ -22,6 +23,7 @@ readChain text s = do
   x ← readOwn text s
   pure (withOmitPreWs left x)
 
+-- what each tag reads
 abbrev pub readTag : Bytes → Tag → Span → Reader Expression
 readTag text (blockStart k) s = readOwn text s
 readTag text invertTag s = readOwn text s

@@ -33,6 +33,7 @@ module _ (text : Bytes) (words : List ℕ) (preventIndent isPartial : Bool) wher
     _ ← refuseIf (decoratorNameDiffers k st (x .0)) 11 (s .number)
     accepted (tagStep text words preventIndent isPartial k st s (x .0), x .1)
 
+  -- what is asked behind 6 and 7
   abbrev pub walkKind : Kind → State → Span → List Span → Result (State × List Span)
   walkKind (plain k) st s r = walkPlain k st s r
   walkKind (tagged k) st s r = walkTag k st s r
@@ -51,6 +52,7 @@ module _ (text : Bytes) (words : List ℕ) (preventIndent isPartial : Bool) wher
   walkBy (suc k) st [] = accepted st
   walkBy (suc k) st (s ∷ r) = elim (walkSpan st s r) [ accepted y ↦ walkBy k (y .0) (y .1) | refused n p ↦ refused n p ]
 
+  -- the state behind the last of the spans
   abbrev pub walk : State → List Span → Result State
   walk st spans = walkBy (length spans) st spans
 
@@ -58,6 +60,7 @@ module _ (text : Bytes) (words : List ℕ) (preventIndent isPartial : Bool) wher
   abbrev pub withRest : State → List Elem → List Elem
   withRest st es = if (textLeft text st) (item (placeAt text (prevEnd st)) (T.text (drop (prevEnd st) text)) ∷ es) es
 
+  -- the root's body
   abbrev pub rootBody : State → Level → Body
   rootBody st (level o es) = bodyOf (withRest st es)
 
