@@ -68,10 +68,13 @@ escaped-more s i h k a b =
     let b′ = getD s i 0 in
     rw (add-one i, take-suc s i 0 k, escaped-append (take i s) (b′ ∷ []), append-nil (escape b′)) (written-then h a b)
 
-pub quoted-done : {l₀ l m n : Bytes} {at p q r : ℕ} (s : Bytes) (i : ℕ) → length l₀ ≤ largest → length s ≤ i
-    → Written (34 ∷ []) l₀ at l p → Written (escaped (take i s)) l p m q → Written (34 ∷ []) m q n r → Written (quoted s) l₀ at n r
+pub escaped-all : {l m : Bytes} {at p : ℕ} (s : Bytes) (i : ℕ) → length s ≤ i → Written (escaped (take i s)) l at m p → Written (escaped s) l at m p
+escaped-all s i h a = rw (take-all i s h) at a
+
+pub quoted-done : {l₀ l m n : Bytes} {at p q r : ℕ} (s : Bytes) → length l₀ ≤ largest
+    → Written (34 ∷ []) l₀ at l p → Written (escaped s) l p m q → Written (34 ∷ []) m q n r → Written (quoted s) l₀ at n r
 unfolding quoted
-quoted-done s i h k a b c = written-then h a (written-then (omega (arith, written-length a)) (rw (take-all i s k) at b) c)
+quoted-done s h a b c = written-then h a (written-then (omega (arith, written-length a)) b c)
 
 -- one byte, by its escape
 module _ (b : ℕ) where

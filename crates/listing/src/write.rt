@@ -2,7 +2,7 @@
 use support::bytes::part;
 ghost use mathlib.Core.List.{[], _∷_};
 ghost use Rattle.support.specs.Bytes.{part};
-ghost use Rattle.listing.specs.Quoted.{quoted, decimal, escape};
+ghost use Rattle.listing.specs.Quoted.{quoted, decimal, escape, escaped};
 ghost use Rattle.listing.specs.Written.{Written};
 
 // Stores one byte. A position that would pass the largest number stops there.
@@ -40,17 +40,26 @@ pub(crate) fn put_escaped(out: &mut [u8], at: usize, b: u8) -> usize
     }
 }
 
-// A quoted text.
-pub fn write_quoted(out: &mut [u8], at: usize, text: &[u8]) -> usize
-    ensures { λ r. ⌜ Written (quoted (now (text .entry))) (now (out .entry)) at (now (out .exit)) r ⌝ }
+// The bytes of a text as they stand between quotes.
+pub fn write_escaped(out: &mut [u8], at: usize, text: &[u8]) -> usize
+    ensures { λ r. ⌜ Written (escaped (now (text .entry))) (now (out .entry)) at (now (out .exit)) r ⌝ }
 {
-    let mut p = put(out, at, b'"');
+    let mut p = at;
     let mut i = 0;
     while i < text.len() {
         p = put_escaped(out, p, text[i]);
         i += 1;
     }
-    put(out, p, b'"')
+    p
+}
+
+// A quoted text.
+pub fn write_quoted(out: &mut [u8], at: usize, text: &[u8]) -> usize
+    ensures { λ r. ⌜ Written (quoted (now (text .entry))) (now (out .entry)) at (now (out .exit)) r ⌝ }
+{
+    let p = put(out, at, b'"');
+    let q = write_escaped(out, p, text);
+    put(out, q, b'"')
 }
 
 // A part of a text, quoted.
