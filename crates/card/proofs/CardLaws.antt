@@ -1,17 +1,14 @@
 -- The laws for the code that stores the words of span lines and reads a card. Assumes nothing.
-use Prim.Native.Nat.{ℕ, suc, _+_, _-_, _*_, _≤_, _<_}
+use Prim.Native.Nat.{ℕ, suc, _+_, _-_, _≤_, _<_}
 use native.Mathlib.Omega.{arith}
-use native.Mathlib.Numerals.{add-one}
 use mathlib.Core.Path.{_≡_, refl, sym, ap, subst, _∙_}
-use mathlib.Core.Bool.{Bool, true, false}
 use mathlib.Core.List.{List, [], _∷_, _++_, append-assoc, append-nil}
-use mathlib.Core.Option.{Option, none, some}
-use lib.Dec.{leb}
-use lib.ListN.{length, getD, take, drop, set, length-append, length-drop}
+use mathlib.Core.Option.{none, some}
+use lib.ListN.{length, getD, drop, set, length-append, length-drop}
 use lib.Seq.{sets}
 use borrow.Author.Tests.{le-leb, lt-leb}
-use Rattle.support.specs.Bytes.{Bytes, if}
-use Rattle.card.specs.Card.{maxBytes, Said, said, Read, read, other, readMark, readField, readLine, Lines, lines, prepend, readLines, readText, readCard, lineWords, lineRest, storedWords}
+use Rattle.support.specs.Bytes.{Bytes}
+use Rattle.card.specs.Card.{maxBytes, said, Read, read, other, readMark, readField, Lines, lines, readLines, readText, readCard, lineWords, lineRest, storedWords}
 use Rattle.card.specs.Answers.{LineIs, Stored, LinesIs, answerOf, CardIs}
 use Rattle.card.specs.declared.read.Line.{Line}
 use Rattle.card.specs.declared.read.Line.the-variants as Line
@@ -119,7 +116,7 @@ module _ (s : Bytes) where
     unfolding readCard
     card-options o r e = rw (le-leb (length s) maxBytes h, e, readCard)
 
-    stored-options : (o : ℕ) (r : Bytes) → readField 10 s ≡ read o r → storedWords s ≡ lineWords (readLines r)
+    pub stored-options : (o : ℕ) (r : Bytes) → readField 10 s ≡ read o r → storedWords s ≡ lineWords (readLines r)
     unfolding storedWords
     stored-options o r e = rw (le-leb (length s) maxBytes h, e, storedWords)
 

@@ -1,18 +1,17 @@
 -- The laws for the code that reads fields and span lines at an offset. Assumes nothing.
-use Prim.Native.Nat.{ℕ, suc, _+_, _-_, _≤_, _<_}
+use Prim.Native.Nat.{ℕ, _+_, _-_, _≤_, _<_}
 use native.Mathlib.Omega.{arith}
 use native.Mathlib.Numerals.{add-one}
-use mathlib.Core.Path.{_≡_, refl, sym, ap, subst, _∙_}
-use mathlib.Core.Bool.{Bool, true, false, _&&_}
-use mathlib.Core.List.{List, [], _∷_}
-use lib.Dec.{leb, eqb}
+use mathlib.Core.Path.{_≡_, sym, ap, subst, _∙_}
+use mathlib.Core.Bool.{true, false}
+use mathlib.Core.List.{_∷_}
 use lib.ListN.{length, getD, drop, drop-of-length-le}
 use lib.Seq.{drop-cons, drop-drop}
 use borrow.Author.Tests.{le-leb, lt-leb, eq-eqb, ne-eqb}
-use Rattle.support.specs.Bytes.{Bytes, if}
+use Rattle.support.specs.Bytes.{Bytes}
 use Rattle.card.specs.Number.{leadingDigits, decimal}
-use Rattle.card.specs.Card.{maxDigits, Read, read, other, andThen, isNumber, readMark, readField, readLine}
-use Rattle.card.specs.Answers.{DigitsIs, fieldMeans, FieldIs, LineIs}
+use Rattle.card.specs.Card.{Read, read, other, andThen, isNumber, readMark, readField}
+use Rattle.card.specs.Answers.{DigitsIs, FieldIs, LineIs}
 use Rattle.card.specs.declared.number.Digits.{Digits}
 use Rattle.card.specs.declared.read.Field.{Field}
 use Rattle.card.specs.declared.read.Field.the-variants as Field

@@ -1,22 +1,22 @@
 -- What is read is what is written: `readCard` gives what a card says exactly for the bytes that are a card, and one input is one card at most.
 -- Digits end at the byte behind them, which is none, so that each number is read whole. Assumes nothing.
-use Prim.Native.Nat.{ℕ, zero, suc, _+_, _*_, _≤_, _<_}
+use Prim.Native.Nat.{ℕ, zero, suc, _+_, _-_, _*_, _≤_}
 use native.Mathlib.Omega.{arith}
-use mathlib.Core.Path.{_≡_, refl, sym, ap, subst, _∙_}
+use mathlib.Core.Path.{_≡_, refl, sym, ap, _∙_}
 use mathlib.Core.Bool.{Bool, true, false}
-use mathlib.Core.List.{List, [], _∷_, _++_}
+use mathlib.Core.List.{List, [], _∷_, _++_, append-assoc}
 use mathlib.Core.Option.{Option, none, some}
 use lib.Dec.{leb, eqb}
-use lib.ListN.{length, take, drop, length-append}
-use lib.Seq.{drop-append-seam}
+use lib.ListN.{length, drop, length-append}
+use lib.Seq.{drop-append-seam, drop-at}
 use borrow.Author.Tests.{leb-true, leb-false, le-leb, eq-eqb, eqb-true}
 use Rattle.support.specs.Bytes.{Bytes, if}
-use Rattle.card.specs.Number.{isDigit, allDigits, leadingDigits, decimal}
-use Rattle.card.specs.Card.{maxBytes, maxDigits, Number, SpanLine, Card, writeField, writeLine, writeLines, write, IsCard, Said, said, spanWords, says, Read, read, other, andThen, isNumber, readMark, readField, readLine, Lines, lines, prepend, linesBy, readLines, lineWords, lineRest, readText, readCard}
+use Rattle.card.specs.Number.{isDigit, leadingDigits, decimal}
+use Rattle.card.specs.Card.{maxBytes, maxDigits, Number, SpanLine, Card, writeField, writeLine, writeLines, write, IsCard, Said, said, spanWords, says, Read, read, other, andThen, isNumber, readMark, readField, readLine, Lines, lines, prepend, linesBy, readLines, lineWords, lineRest, readText, readCard, storedWords}
 use Rattle.card.proofs.Numbers.{leading-all, leading-before}
 use Rattle.card.proofs.Fields.{field-no, field-yes, Taken, field-taken, line-no-tag, line-yes, LineTaken, line-taken}
 use Rattle.card.proofs.Lines.{by-read, by-other, lines-read, lines-other, words-prepend, rest-prepend}
-use Rattle.card.proofs.CardLaws.{card-long, card-no-options, card-options}
+use Rattle.card.proofs.CardLaws.{card-long, card-no-options, card-options, stored-options}
 
 -- ---- what is written is read
 
@@ -66,6 +66,14 @@ card-is-read s c h =
     let r : Bytes = writeLines (c .spans) (10 ∷ c .text) in
     card-options s (h .within) (decimal (c .options .digits)) r (ap (readField 10) (h .written) ∙ field-written (c .options) 10 refl r)
     ∙ ap (readText (decimal (c .options .digits))) (lines-written (c .spans) (c .text))
+
+-- and its words are stored
+pub card-is-stored : (s : Bytes) (c : Card) → IsCard s c → storedWords s ≡ spanWords (c .spans)
+unfolding isDigit
+card-is-stored s c h =
+    let r : Bytes = writeLines (c .spans) (10 ∷ c .text) in
+    stored-options s (h .within) (decimal (c .options .digits)) r (ap (readField 10) (h .written) ∙ field-written (c .options) 10 refl r)
+    ∙ ap lineWords (lines-written (c .spans) (c .text))
 
 -- ---- what is read is written
 
@@ -198,3 +206,19 @@ words-fit s o ws t e =
     let j : length s ≡ length (write c) = ap length (f .is .written) in
     let k = f .is .within in
     omega arith
+
+-- ---- the text is the end of the bytes
+
+lines-front : (ls : List SpanLine) (r : Bytes) → writeLines ls r ≡ writeLines ls [] ++ r
+unfolding writeLines
+lines-front [] r = refl
+lines-front (l ∷ ls) r = rw (lines-front ls r) (simp append-assoc)
+
+pub text-last : (s : Bytes) (c : Card) → s ≡ write c → drop (length s - length (c .text)) s ≡ c .text
+text-last s c e =
+    let o : Bytes = c .options .digits in
+    let ls : Bytes = writeLines (c .spans) [] in
+    let p : Bytes = o ++ (10 ∷ (ls ++ (10 ∷ []))) in
+    let f : s ≡ p ++ c .text = e ∙ ap (λ z. o ++ (10 ∷ z)) (lines-front (c .spans) (10 ∷ c .text)) ∙ simp append-assoc in
+    let n : length s ≡ length p + length (c .text) = ap length f ∙ length-append p (c .text) in
+    ap (drop (length s - length (c .text))) f ∙ drop-at p (c .text) (length s - length (c .text)) (omega arith)

@@ -1,12 +1,12 @@
 -- Span lines one after the other: `readLines` without a bound on their number. Assumes nothing.
-use Prim.Native.Nat.{ℕ, zero, suc, _≤_, _<_}
+use Prim.Native.Nat.{ℕ, zero, suc, _≤_}
 use native.Mathlib.Omega.{arith}
 use mathlib.Core.Path.{_≡_, refl, sym, ap, _∙_}
 use mathlib.Core.List.{List, [], _∷_, _++_}
 use lib.ListN.{length}
 use Rattle.support.specs.Bytes.{Bytes}
 use Rattle.card.specs.Number.{leadingDigits}
-use Rattle.card.specs.Card.{Read, read, other, readField, readLine, Lines, lines, prepend, linesBy, readLines, lineWords, lineRest}
+use Rattle.card.specs.Card.{Read, read, other, readLine, Lines, lines, prepend, linesBy, readLines, lineWords, lineRest}
 use Rattle.card.proofs.Fields.{field-no, line-no-tag, line-shorter}
 
 pub by-read : (n : ℕ) (s : Bytes) (ws : List ℕ) (r : Bytes) → readLine s ≡ read ws r → linesBy (suc n) s ≡ prepend ws (linesBy n r)
