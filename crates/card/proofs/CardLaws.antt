@@ -16,13 +16,10 @@ use Rattle.card.specs.declared.read.SpanLine as declared
 use Rattle.card.specs.declared.read.Lines as declared-lines
 use Rattle.card.specs.declared.read.CardRead.the-variants as CardRead
 use Rattle.card.proofs.Lines.{lines-read, lines-other, words-prepend, rest-prepend}
+use Rattle.card.proofs.Stores.{stored-more}
 use Rattle.card.proofs.FieldLaws.{Found, mark-past, mark-other, mark-here}
 
 -- ---- three words more behind those that are stored
-
-stored-more : (ws vs l : List ℕ) (i : ℕ) → sets l i (ws ++ vs) ≡ sets (sets l i ws) (i + length ws) vs
-stored-more [] vs l i = let q : i + 0 ≡ i = omega arith in rw q
-stored-more (w ∷ ws) vs l i = let q : i + suc (length ws) ≡ suc i + length ws = omega arith in rw q (stored-more ws vs (set l i w) (suc i))
 
 stored-three : (ws l : List ℕ) (n a b c : ℕ) → length ws ≡ n → set (set (set (sets l 0 ws) n a) (n + 1) b) (n + 2) c ≡ sets l 0 (ws ++ (a ∷ b ∷ c ∷ []))
 stored-three ws l n a b c e =

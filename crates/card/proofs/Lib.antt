@@ -3,5 +3,7 @@ pub mod Fields
 pub mod Lines
 pub mod Grammar
 pub mod Lent
+mod Stores
 mod FieldLaws
 mod CardLaws
+mod StoredLaws

@@ -1,3 +1,4 @@
 pub mod Number
 pub mod Card
 pub mod Answers
+pub mod Stored

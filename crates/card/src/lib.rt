@@ -2,3 +2,4 @@
 // numbers and lines of stored records.
 pub mod number;
 pub mod read;
+pub mod stored;
