@@ -1,6 +1,8 @@
 // Reads stored span lists from standard input and writes what expression answers of them: two lines a
 // record, the text and the words (decimal, one space between). The answers are compared with those of
 // tools/expressions.
+use card::stored::line_at;
+use card::stored::read_words;
 use expression::again::Bound;
 use expression::again::KeyStep;
 use expression::again::ParamStep;
@@ -36,9 +38,6 @@ use json_path::span::span_count;
 use libc::STDIN_FILENO;
 use libc::STDOUT_FILENO;
 use support::bytes::part;
-ghost use Prim.Native.Nat.{_≤_, _<_};
-ghost use lib.ListN.{length};
-ghost use Rattle.io.specs.Counts.{Counts};
 
 fn show(bytes: &[u8]) {
     io::write_all(STDOUT_FILENO, bytes);
@@ -313,81 +312,6 @@ fn show_record(text: &[u8], words: &[u32]) {
     }
     show_at(text, words, usize::MAX, usize::MAX);
 }
-// The first line end from `at` on, or the length.
-fn line_end(s: &[u8], at: usize) -> usize
-    ensures { λ r. ⌜ r ≤ length (now (s .entry)) ⌝ }
-{
-    let mut i = at;
-    while i < s.len() {
-        if s[i] == b'\n' {
-            return i;
-        }
-        i += 1;
-    }
-    s.len()
-}
-
-pub struct Number {
-    pub value: u32,
-    pub next: usize,
-}
-
-// One more decimal digit; a number that would not fit becomes the largest.
-fn grown(value: u32, b: u8) -> u32 {
-    if b < b'0' {
-        return value;
-    }
-    if b'9' < b {
-        return value;
-    }
-    let digit = b - b'0';
-    let v = (value as u64) * 10 + digit as u64;
-    if 0xFFFF_FFFF < v {
-        return 0xFFFF_FFFF;
-    }
-    v as u32
-}
-
-// The number that starts at `at`, and where the next one does.
-fn read_number(line: &[u8], at: usize) -> Number
-    requires { ⌜ at < length (now line) ⌝ }
-    ensures { λ r. ⌜ at < r .next ⌝ }
-{
-    let mut value: u32 = 0;
-    let mut i = at;
-    while i < line.len() {
-        if line[i] == b' ' {
-            return Number {
-                value: value,
-                next: i + 1,
-            };
-        }
-        value = grown(value, line[i]);
-        i += 1;
-    }
-    Number {
-        value: value,
-        next: i + 1,
-    }
-}
-
-// The numbers of a line, as far as there is room, and how many there are.
-fn read_words(line: &[u8], words: &mut [u32]) -> usize
-    ensures { λ r. ⌜ Counts r (now (words .exit)) ⌝ }
-{
-    let mut n: usize = 0;
-    let mut at: usize = 0;
-    while at < line.len() {
-        if words.len() <= n {
-            return n;
-        }
-        let number = read_number(line, at);
-        words[n] = number.value;
-        n += 1;
-        at = number.next;
-    }
-    n
-}
 
 fn replay_record(text: &[u8], line: &[u8]) {
     let mut words = [0u32; 3 * Span::LIMIT];
@@ -398,13 +322,11 @@ fn replay_record(text: &[u8], line: &[u8]) {
 fn replay(input: &[u8]) {
     let mut at: usize = 0;
     while at < input.len() {
-        let middle = line_end(input, at);
-        let end = line_end(input, middle + 1);
-        replay_record(part(input, at, middle), part(input, middle + 1, end));
-        if end < at {
-            return;
-        }
-        at = end + 1;
+        let text = line_at(input, at);
+        let second = at + text.len() + 1;
+        let words = line_at(input, second);
+        replay_record(text, words);
+        at = second + words.len() + 1;
     }
 }
 
