@@ -8,8 +8,9 @@ use lib.ListN.{length, getD, drop, set, length-append, length-drop}
 use lib.Seq.{sets}
 use borrow.Author.Tests.{le-leb, lt-leb}
 use Rattle.support.specs.Bytes.{Bytes}
-use Rattle.card.specs.Card.{maxBytes, said, Read, read, other, readMark, readField, Lines, lines, readLines, readText, readCard, lineWords, lineRest, storedWords}
-use Rattle.card.specs.Answers.{LineIs, Stored, LinesIs, answerOf, CardIs}
+use Rattle.card.specs.Card.{maxBytes, said}
+use Rattle.card.specs.Read.{Read, read, other, readMark, readField, Lines, lines, readLines, readText, readCard, lineWords, lineRest, storedWords}
+use Rattle.card.specs.Answers.{LineIs, Stores, LinesIs, answerOf, CardIs}
 use Rattle.card.specs.declared.read.Line.{Line}
 use Rattle.card.specs.declared.read.Line.the-variants as Line
 use Rattle.card.specs.declared.read.SpanLine as declared
@@ -129,7 +130,7 @@ module _ {s : Bytes} (h : length s ≤ maxBytes) where
   no-options l e = untouched s l (card-no-options s h e) (stored-no-options s h e)
 
   module _ {o from : ℕ} (f : Found s 0 10 o from) {l m : List ℕ} {x : declared-lines.Lines} (g : LinesIs s from l m x) where
-    kept : Stored (storedWords s) l m
+    kept : Stores (storedWords s) l m
     kept = g .stored ∙ ap (sets l 0) (sym (stored-options s h o (drop from s) (f .reads)))
 
     text-at : {y : Read ℕ} → readMark 10 (drop (x .next) s) ≡ y → readMark 10 (lineRest (readLines (drop from s))) ≡ y

@@ -1,23 +1,21 @@
 -- The laws for the code that reads fields and span lines at an offset. Assumes nothing.
 use Prim.Native.Nat.{ℕ, _+_, _-_, _≤_, _<_}
 use native.Mathlib.Omega.{arith}
-use native.Mathlib.Numerals.{add-one}
 use mathlib.Core.Path.{_≡_, sym, ap, subst, _∙_}
 use mathlib.Core.Bool.{true, false}
-use mathlib.Core.List.{_∷_}
 use lib.ListN.{length, getD, drop, drop-of-length-le}
-use lib.Seq.{drop-cons, drop-drop}
+use lib.Seq.{drop-drop}
 use borrow.Author.Tests.{le-leb, lt-leb, eq-eqb, ne-eqb}
 use Rattle.support.specs.Bytes.{Bytes}
 use Rattle.card.specs.Number.{leadingDigits, decimal}
-use Rattle.card.specs.Card.{Read, read, other, andThen, isNumber, readMark, readField}
+use Rattle.card.specs.Read.{Read, read, other, andThen, isNumber, readMark, readField}
 use Rattle.card.specs.Answers.{DigitsIs, FieldIs, LineIs}
 use Rattle.card.specs.declared.number.Digits.{Digits}
 use Rattle.card.specs.declared.read.Field.{Field}
 use Rattle.card.specs.declared.read.Field.the-variants as Field
 use Rattle.card.specs.declared.read.Line.{Line}
 use Rattle.card.specs.declared.read.Line.the-variants as Line
-use Rattle.card.proofs.Numbers.{leading-all, few-fit}
+use Rattle.card.proofs.Numbers.{at-offset, leading-all, few-fit}
 use Rattle.card.proofs.Fields.{field-no, field-yes, line-no-tag, line-no-start, line-no-end, line-yes}
 
 -- ---- the byte at an offset
@@ -27,14 +25,11 @@ module _ (mark : ℕ) (s : Bytes) (e : ℕ) where
   mark-past h = ap (readMark mark) (drop-of-length-le s h)
 
   module _ (h : e < length s) where
-    here : drop e s ≡ getD s e 0 ∷ drop (e + 1) s
-    here = rw (add-one, drop-cons s e 0)
-
     pub mark-other : (getD s e 0 ≡ mark → ⊥) → readMark mark (drop e s) ≡ other
-    mark-other k = ap (readMark mark) here ∙ rw (ne-eqb (getD s e 0) mark k)
+    mark-other k = ap (readMark mark) (at-offset s e h) ∙ rw (ne-eqb (getD s e 0) mark k)
 
     pub mark-here : getD s e 0 ≡ mark → readMark mark (drop e s) ≡ read (getD s e 0) (drop (e + 1) s)
-    mark-here k = ap (readMark mark) here ∙ rw (eq-eqb (getD s e 0) mark k)
+    mark-here k = ap (readMark mark) (at-offset s e h) ∙ rw (eq-eqb (getD s e 0) mark k)
 
 -- ---- a number and the byte behind it
 

@@ -9,8 +9,13 @@ use lib.ListN.{length, drop, length-append}
 use borrow.Author.Tests.{leb-true, eqb-true}
 use Rattle.support.specs.Bytes.{Bytes, if}
 use Rattle.card.specs.Number.{leadingDigits, decimal}
-use Rattle.card.specs.Card.{maxDigits, Read, read, other, andThen, isNumber, readMark, readField, readLine}
+use Rattle.card.specs.Card.{maxDigits}
+use Rattle.card.specs.Read.{Read, read, other, andThen, isNumber, readMark, readField, readLine}
 use Rattle.card.proofs.Numbers.{and-left, and-right, leading-split}
+
+-- what is read otherwise is not read
+pub not-both : {A : Type 0} {B : Type 0} {a : A} {r : Bytes} {x : Read A} → x ≡ other → x ≡ read a r → B
+not-both e f = let z : _≡_ {A = ℕ} 0 1 = cc in absurd (omega arith)
 
 -- ---- a number and the byte behind it
 
@@ -42,9 +47,6 @@ mark-taken mark (c ∷ s) v w r e = go (eqb c mark) refl e
 pub field-taken : (mark : ℕ) (s : Bytes) (v : ℕ) (r : Bytes) → readField mark s ≡ read v r → Taken mark s v r
 field-taken mark s v r e = go (isNumber (leadingDigits s)) refl
   where
-    ds : Bytes
-    ds = leadingDigits s
-
     go : (b : Bool) → isNumber (leadingDigits s) ≡ b → Taken mark s v r
     go true f =
         let t = mark-taken mark (drop (length (leadingDigits s)) s) v (decimal (leadingDigits s)) r (sym (field-yes mark s f) ∙ e) in
@@ -54,7 +56,7 @@ field-taken mark s v r e = go (isNumber (leadingDigits s)) refl
           most = leb-true (length (leadingDigits s)) maxDigits (and-right (leb 1 (length (leadingDigits s))) (leb (length (leadingDigits s)) maxDigits) f);
           value = t .1;
         }
-    go false f = let z : _≡_ {A = ℕ} 0 1 = (let g = sym (field-no mark s f) ∙ e in cc) in absurd (omega arith)
+    go false f = not-both (field-no mark s f) e
 
 pub field-shorter : {mark : ℕ} {s : Bytes} {v : ℕ} {r : Bytes} → Taken mark s v r → length r + 2 ≤ length s
 field-shorter {mark} {s} {v} {r} t =
@@ -112,15 +114,15 @@ line-taken s ws r e = one (readField 32 s) refl
           third = field-taken 10 q c r (h ∙ ap (read c) m);
           words = (cc);
         }
-    three a p b q f g other h = let z : _≡_ {A = ℕ} 0 1 = (let k = sym (line-no-end s a p f b q g h) ∙ e in cc) in absurd (omega arith)
+    three a p b q f g other h = not-both (line-no-end s a p f b q g h) e
 
     two : (a : ℕ) (p : Bytes) → readField 32 s ≡ read a p → (x : Read ℕ) → readField 32 p ≡ x → LineTaken s ws r
     two a p f (read b q) g = three a p b q f g (readField 10 q) refl
-    two a p f other g = let z : _≡_ {A = ℕ} 0 1 = (let k = sym (line-no-start s a p f g) ∙ e in cc) in absurd (omega arith)
+    two a p f other g = not-both (line-no-start s a p f g) e
 
     one : (x : Read ℕ) → readField 32 s ≡ x → LineTaken s ws r
     one (read a p) f = two a p f (readField 32 p) refl
-    one other f = let z : _≡_ {A = ℕ} 0 1 = (let k = sym (line-no-tag s f) ∙ e in cc) in absurd (omega arith)
+    one other f = not-both (line-no-tag s f) e
 
 pub line-shorter : (s : Bytes) (ws : List ℕ) (r : Bytes) → readLine s ≡ read ws r → length r < length s
 line-shorter s ws r e =

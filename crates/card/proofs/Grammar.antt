@@ -12,7 +12,8 @@ use lib.Seq.{drop-append-seam, drop-at}
 use borrow.Author.Tests.{leb-true, leb-false, le-leb, eq-eqb, eqb-true}
 use Rattle.support.specs.Bytes.{Bytes, if}
 use Rattle.card.specs.Number.{isDigit, leadingDigits, decimal}
-use Rattle.card.specs.Card.{maxBytes, maxDigits, Number, SpanLine, Card, writeField, writeLine, writeLines, write, IsCard, Said, said, spanWords, says, Read, read, other, andThen, isNumber, readMark, readField, readLine, Lines, lines, prepend, linesBy, readLines, lineWords, lineRest, readText, readCard, storedWords}
+use Rattle.card.specs.Card.{maxBytes, maxDigits, Number, SpanLine, Card, writeField, writeLine, writeLines, write, IsCard, Said, said, spanWords, says}
+use Rattle.card.specs.Read.{Read, read, other, andThen, isNumber, readMark, readField, readLine, Lines, lines, prepend, linesBy, readLines, lineWords, lineRest, readText, readCard, storedWords}
 use Rattle.card.proofs.Numbers.{leading-all, leading-before}
 use Rattle.card.proofs.Fields.{field-no, field-yes, Taken, field-taken, line-no-tag, line-yes, LineTaken, line-taken}
 use Rattle.card.proofs.Lines.{by-read, by-other, lines-read, lines-other, words-prepend, rest-prepend}
@@ -121,6 +122,10 @@ spans-taken (suc n) s = go (readLine s) refl (λ r. spans-taken n r)
         (one-more (line-taken s ws r e) (lineWords (linesBy n r)) (lineRest (linesBy n r)) (ih r)))
     go other e ih = rw (by-other (suc n) s e) (no-spans s)
 
+-- nothing is not something
+no-said : {A : Type 0} {x : Said} {o : Option Said} → o ≡ none → o ≡ some x → A
+no-said e f = let z : _≡_ {A = ℕ} 0 1 = cc in absurd (omega arith)
+
 -- a text is read behind an empty line
 record Text (o : ℕ) (x : Lines) (y : Said) : Type 0 where
   text : Bytes
@@ -128,12 +133,12 @@ record Text (o : ℕ) (x : Lines) (y : Said) : Type 0 where
   means : said o (lineWords x) text ≡ y
 
 text-taken : (o : ℕ) (x : Lines) (y : Said) → readText o x ≡ some y → Text o x y
-text-taken o (lines ws []) y e = let z : _≡_ {A = ℕ} 0 1 = cc in absurd (omega arith)
+text-taken o (lines ws []) y e = no-said refl e
 text-taken o (lines ws (c ∷ t)) y e = go (eqb c 10) refl e
   where
     go : (b : Bool) → eqb c 10 ≡ b → _≡_ {A = Option Said} (elim (if b (read c t) other) [ read d text ↦ some (said o ws text) | other ↦ none ]) (some y) → Text o (lines ws (c ∷ t)) y
     go true f g = let h = eqb-true c 10 f in record { text = t; rest = (cc); means = (cc) }
-    go false f g = let z : _≡_ {A = ℕ} 0 1 = cc in absurd (omega arith)
+    go false f g = no-said refl g
 
 -- a card that the bytes are, and that says x
 pub record ReadFrom (s : Bytes) (x : Said) : Type 0 where
@@ -146,9 +151,6 @@ pub read-is-card : (s : Bytes) (x : Said) → readCard s ≡ some x → ReadFrom
 unfolding readLines
 read-is-card s x e = long (leb (length s) maxBytes) refl
   where
-    never : {A : Type 0} → readCard s ≡ none → A
-    never f = let z : _≡_ {A = ℕ} 0 1 = cc in absurd (omega arith)
-
     options : length s ≤ maxBytes → (y : Read ℕ) → readField 10 s ≡ y → ReadFrom s x
     options h (read o r) f =
         let a = field-taken 10 s o r f in
@@ -162,15 +164,15 @@ read-is-card s x e = long (leb (length s) maxBytes) refl
           };
           means = ap (λ z. said z (spanWords (g .spans)) (t .text)) (a .value) ∙ ap (λ z. said o z (t .text)) (g .words) ∙ t .means;
         }
-    options h other f = never (card-no-options s h f)
+    options h other f = no-said (card-no-options s h f) e
 
     long : (b : Bool) → leb (length s) maxBytes ≡ b → ReadFrom s x
     long true f = options (leb-true (length s) maxBytes f) (readField 10 s) refl
-    long false f = never (card-long s (leb-false (length s) maxBytes f))
+    long false f = no-said (card-long s (leb-false (length s) maxBytes f)) e
 
 -- where none is read the bytes are no card
 pub none-is-read : (s : Bytes) (c : Card) → readCard s ≡ none → IsCard s c → ⊥
-none-is-read s c e h = let z : _≡_ {A = ℕ} 0 1 = (let f = card-is-read s c h in cc) in omega arith
+none-is-read s c e h = no-said e (card-is-read s c h)
 
 -- one input says one thing
 pub says-once : (s : Bytes) (c d : Card) → IsCard s c → IsCard s d → says c ≡ says d

@@ -8,8 +8,9 @@ use mathlib.Core.Option.{Option, none, some}
 use lib.ListN.{length, take, drop}
 use lib.Seq.{take-at, sets, sets-eq, length-sets}
 use Rattle.support.specs.Bytes.{Bytes}
-use Rattle.card.specs.Card.{maxBytes, Said, said, readCard, storedWords}
-use Rattle.card.specs.Answers.{Stored, answerOf, CardIs}
+use Rattle.card.specs.Card.{maxBytes, Said, said}
+use Rattle.card.specs.Read.{readCard, storedWords}
+use Rattle.card.specs.Answers.{Stores, answerOf, CardIs}
 use Rattle.card.specs.declared.read.Card as declared
 use Rattle.card.specs.declared.read.CardRead.{CardRead}
 use Rattle.card.specs.declared.read.CardRead.the-variants as CardRead
@@ -21,7 +22,7 @@ pub record Lent (s : Bytes) (l m : List ℕ) (c : declared.Card) : Type 0 where
   pub words : c .words ≤ length m
   pub text : c .text ≤ length s
 
-module _ {s : Bytes} {l m : List ℕ} (h : Stored (storedWords s) l m) (k : maxBytes ≤ 2 * length l) where
+module _ {s : Bytes} {l m : List ℕ} (h : Stores (storedWords s) l m) (k : maxBytes ≤ 2 * length l) where
   lent-of : (c : declared.Card) (x : Option Said) → readCard s ≡ x → CardRead.Card c ≡ answerOf s x → Lent s l m c
   lent-of c none e q = let z : _≡_ {A = ℕ} 0 1 = cc in absurd (omega arith)
   lent-of c (some (said o ws t)) e q =

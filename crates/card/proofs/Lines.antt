@@ -6,8 +6,8 @@ use mathlib.Core.List.{List, [], _∷_, _++_}
 use lib.ListN.{length}
 use Rattle.support.specs.Bytes.{Bytes}
 use Rattle.card.specs.Number.{leadingDigits}
-use Rattle.card.specs.Card.{Read, read, other, readLine, Lines, lines, prepend, linesBy, readLines, lineWords, lineRest}
-use Rattle.card.proofs.Fields.{field-no, line-no-tag, line-shorter}
+use Rattle.card.specs.Read.{Read, read, other, readLine, Lines, lines, prepend, linesBy, readLines, lineWords, lineRest}
+use Rattle.card.proofs.Fields.{not-both, field-no, line-no-tag, line-shorter}
 
 pub by-read : (n : ℕ) (s : Bytes) (ws : List ℕ) (r : Bytes) → readLine s ≡ read ws r → linesBy (suc n) s ≡ prepend ws (linesBy n r)
 unfolding linesBy
@@ -40,7 +40,7 @@ enough (suc n) (suc m) s h k = go (readLine s) refl (λ r i j. enough n m r i j)
 
 pub lines-read : (s : Bytes) (ws : List ℕ) (r : Bytes) → readLine s ≡ read ws r → readLines s ≡ prepend ws (readLines r)
 unfolding readLines
-lines-read [] ws r e = let z : _≡_ {A = ℕ} 0 1 = (let k = sym line-nil ∙ e in cc) in absurd (omega arith)
+lines-read [] ws r e = not-both line-nil e
 lines-read (b ∷ s) ws r e =
     let l = line-shorter (b ∷ s) ws r e in
     by-read (length s) (b ∷ s) ws r e ∙ ap (prepend ws) (enough (length s) (length r) r (omega arith) (omega arith))

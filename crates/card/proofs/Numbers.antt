@@ -35,6 +35,9 @@ module _ (c : ℕ) (e : isDigit c ≡ true) where
 
 -- ---- the digits that bytes start with
 
+pub at-offset : (s : Bytes) (i : ℕ) → i < length s → drop i s ≡ getD s i 0 ∷ drop (i + 1) s
+at-offset s i h = rw (add-one, drop-cons s i 0)
+
 pub leading-on : (c : ℕ) (s : Bytes) → isDigit c ≡ true → leadingDigits (c ∷ s) ≡ c ∷ leadingDigits s
 unfolding leadingDigits
 leading-on c s e = rw (e, leadingDigits)
@@ -49,14 +52,11 @@ module _ (s : Bytes) (i : ℕ) where
   digits-past h = ap leadingDigits (drop-of-length-le s h)
 
   module _ (h : i < length s) where
-    here : drop i s ≡ getD s i 0 ∷ drop (i + 1) s
-    here = rw (add-one, drop-cons s i 0)
-
     pub digits-stop : isDigit (getD s i 0) ≡ false → leadingDigits (drop i s) ≡ []
-    digits-stop e = ap leadingDigits here ∙ leading-stop (getD s i 0) (drop (i + 1) s) e
+    digits-stop e = ap leadingDigits (at-offset s i h) ∙ leading-stop (getD s i 0) (drop (i + 1) s) e
 
     pub digits-on : isDigit (getD s i 0) ≡ true → leadingDigits (drop i s) ≡ getD s i 0 ∷ leadingDigits (drop (i + 1) s)
-    digits-on e = ap leadingDigits here ∙ leading-on (getD s i 0) (drop (i + 1) s) e
+    digits-on e = ap leadingDigits (at-offset s i h) ∙ leading-on (getD s i 0) (drop (i + 1) s) e
 
 pub leading-all : (s : Bytes) → allDigits (leadingDigits s) ≡ true
 unfolding leadingDigits allDigits

@@ -1,20 +1,19 @@
 -- The laws for the code that reads stored records: the line at an offset, and the numbers of a line. Assumes nothing.
 use Prim.Native.Nat.{ℕ, zero, suc, _+_, _-_, _≤_, _<_, min}
 use native.Mathlib.Omega.{arith}
-use native.Mathlib.Numerals.{add-one}
 use mathlib.Core.Path.{_≡_, refl, sym, ap, _∙_}
 use mathlib.Core.Bool.{Bool, true, false}
 use mathlib.Core.List.{List, [], _∷_, _++_, append-assoc}
 use lib.Dec.{eqb}
 use lib.ListN.{length, getD, take, drop, set, length-append, length-drop, drop-of-length-le}
-use lib.Seq.{drop-cons, drop-drop, length-take-le, sets, length-sets}
+use lib.Seq.{drop-drop, length-take-le, sets, length-sets}
 use borrow.Author.Tests.{eq-eqb, ne-eqb}
 use Rattle.support.specs.Bytes.{Bytes, part}
 use Rattle.card.specs.Number.{leadingDigits}
-use Rattle.card.specs.Answers.{DigitsIs, Stored}
+use Rattle.card.specs.Answers.{DigitsIs, Stores}
 use Rattle.card.specs.Stored.{firstLine, firstNumber, afterNumber, numbersBy, numbers, FirstLineIs, WordsIs}
 use Rattle.card.specs.declared.number.Digits.{Digits}
-use Rattle.card.proofs.Numbers.{leading-split}
+use Rattle.card.proofs.Numbers.{at-offset, leading-split}
 use Rattle.card.proofs.Stores.{stored-more, stored-out}
 
 -- ---- the first line
@@ -33,14 +32,11 @@ module _ (s : Bytes) (i : ℕ) where
   line-past h = ap firstLine (drop-of-length-le s h)
 
   module _ (h : i < length s) where
-    here : drop i s ≡ getD s i 0 ∷ drop (i + 1) s
-    here = rw (add-one, drop-cons s i 0)
-
     pub line-feed : getD s i 0 ≡ 10 → firstLine (drop i s) ≡ []
-    line-feed e = ap firstLine here ∙ first-feed (getD s i 0) (drop (i + 1) s) (eq-eqb (getD s i 0) 10 e)
+    line-feed e = ap firstLine (at-offset s i h) ∙ first-feed (getD s i 0) (drop (i + 1) s) (eq-eqb (getD s i 0) 10 e)
 
     pub line-other : (getD s i 0 ≡ 10 → ⊥) → length (firstLine (drop i s)) ≡ suc (length (firstLine (drop (i + 1) s)))
-    line-other e = ap length (ap firstLine here ∙ first-other (getD s i 0) (drop (i + 1) s) (ne-eqb (getD s i 0) 10 e))
+    line-other e = ap length (ap firstLine (at-offset s i h) ∙ first-other (getD s i 0) (drop (i + 1) s) (ne-eqb (getD s i 0) 10 e))
 
 -- a line is what its bytes start with
 first-front : (s : Bytes) → (take (length (firstLine s)) s ≡ firstLine s) × (length (firstLine s) ≤ length s)

@@ -1,4 +1,4 @@
--- What the answers of the code mean, each case in terms of specs/Number and specs/Card.
+-- What the answers of the code mean, each case in terms of specs/Number.antt and specs/Read.antt.
 use Prim.Native.Nat.{ℕ, _+_, _-_, _≤_, min}
 use mathlib.Core.Path.{_≡_}
 use mathlib.Core.List.{List, [], _∷_}
@@ -7,7 +7,8 @@ use lib.ListN.{length, drop}
 use lib.Seq.{sets}
 use Rattle.support.specs.Bytes.{Bytes}
 use Rattle.card.specs.Number.{leadingDigits, decimal, largest}
-use Rattle.card.specs.Card.{Said, said, Read, read, other, readField, readLine, readLines, lineWords, lineRest, readCard, storedWords}
+use Rattle.card.specs.Card.{Said, said}
+use Rattle.card.specs.Read.{Read, read, other, readField, readLine, readLines, lineWords, lineRest, readCard, storedWords}
 use Rattle.card.specs.declared.number.Digits.{Digits}
 use Rattle.card.specs.declared.read.CardRead.{CardRead}
 use Rattle.card.specs.declared.read.CardRead.the-variants as CardRead
@@ -55,12 +56,12 @@ pub record LineIs (s : Bytes) (at : ℕ) (r : Line) : Type 0 where
   pub inside : lineInside s at r
 
 -- the words ws are stored in l from its first place on, as far as it goes, which gives m; nothing else changes
-abbrev pub Stored : List ℕ → List ℕ → List ℕ → Type 0
-Stored ws l m = m ≡ sets l 0 ws
+abbrev pub Stores : List ℕ → List ℕ → List ℕ → Type 0
+Stores ws l m = m ≡ sets l 0 ws
 
 -- r answers for the span lines from offset `at` on, and their words are stored
 pub record LinesIs (s : Bytes) (at : ℕ) (l m : List ℕ) (r : declared.Lines) : Type 0 where
-  pub stored : Stored (lineWords (readLines (drop at s))) l m
+  pub stored : Stores (lineWords (readLines (drop at s))) l m
   pub words : r .words ≡ length (lineWords (readLines (drop at s)))
   pub rest : lineRest (readLines (drop at s)) ≡ drop (r .next) s
 
@@ -79,4 +80,4 @@ numberOf CardRead.Other = 15
 -- r answers for the bytes s, and the words of the span lines behind the options line are stored in l, which gives m
 pub record CardIs (s : Bytes) (l m : List ℕ) (r : CardRead) : Type 0 where
   pub answer : r ≡ answerOf s (readCard s)
-  pub stored : Stored (storedWords s) l m
+  pub stored : Stores (storedWords s) l m

@@ -7,7 +7,7 @@ use lib.Dec.{eqb}
 use lib.ListN.{length, take, drop}
 use Rattle.support.specs.Bytes.{Bytes}
 use Rattle.card.specs.Number.{leadingDigits, decimal, largest}
-use Rattle.card.specs.Answers.{Stored}
+use Rattle.card.specs.Answers.{Stores}
 
 -- the bytes before the first LF
 unfoldable pub firstLine : Bytes → Bytes
@@ -39,7 +39,7 @@ pub record FirstLineIs (s : Bytes) (at : ℕ) (r : Bytes) : Type 0 where
 
 -- the numbers of a line are stored in l, which gives m; r of them have room, and are the first of m
 pub record WordsIs (line : Bytes) (l m : List ℕ) (r : ℕ) : Type 0 where
-  pub stored : Stored (numbers line) l m
+  pub stored : Stores (numbers line) l m
   pub count : r ≡ min (length (numbers line)) (length l)
   pub inside : r ≤ length m
   pub part : r ≡ length (take r m)
