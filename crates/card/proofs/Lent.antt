@@ -2,10 +2,10 @@
 -- half as many places as a card has bytes. Assumes nothing.
 use Prim.Native.Nat.{ℕ, _+_, _-_, _*_, _≤_}
 use native.Mathlib.Omega.{arith}
-use mathlib.Core.Path.{_≡_, refl, sym, ap, _∙_}
+use mathlib.Core.Path.{_≡_, refl, sym, ap, subst, _∙_}
 use mathlib.Core.List.{List, _++_}
 use mathlib.Core.Option.{Option, none, some}
-use lib.ListN.{length, take, drop}
+use lib.ListN.{length, take, drop, replicate, length-replicate}
 use lib.Seq.{take-at, sets, sets-eq, length-sets}
 use Rattle.support.specs.Bytes.{Bytes}
 use Rattle.card.specs.Card.{maxBytes, Said, said}
@@ -20,6 +20,7 @@ use Rattle.card.proofs.Grammar.{card-is-stored, read-is-card, words-fit
 pub record Lent (s : Bytes) (l m : List ℕ) (c : declared.Card) : Type 0 where
   pub reads : readCard s ≡ some (said (c .options) (take (c .words) m) (drop (c .text) s))
   pub words : c .words ≤ length m
+  pub part : c .words ≡ length (take (c .words) m)
   pub text : c .text ≤ length s
 
 module _ {s : Bytes} {l m : List ℕ} (h : Stores (storedWords s) l m) (k : maxBytes ≤ 2 * length l) where
@@ -39,8 +40,13 @@ module _ {s : Bytes} {l m : List ℕ} (h : Stores (storedWords s) l m) (k : maxB
       rw ce (record {
         reads = e ∙ ap (λ z. some (said o z t)) (sym g) ∙ ap (λ z. some (said o (take (length ws) m) z)) (sym u);
         words = omega arith;
+        part = sym (ap length g);
         text = omega arith;
       })
 
 pub card-lent : {s : Bytes} {l m : List ℕ} {r : CardRead} {c : declared.Card} → r ≡ CardRead.Card c → CardIs s l m r → maxBytes ≤ 2 * length l → Lent s l m c
 card-lent {s} {l} {m} {r} {c} e h k = lent-of (h .stored) k c (readCard s) refl (sym e ∙ h .answer)
+
+-- an array of `Card::WORDS` words is enough
+pub array-lent : {s : Bytes} {m : List ℕ} {r : CardRead} {c : declared.Card} → r ≡ CardRead.Card c → CardIs s (replicate 32768 0) m r → Lent s (replicate 32768 0) m c
+array-lent e h = card-lent e h (subst (λ k. maxBytes ≤ 2 * k) (sym (length-replicate {A = ℕ} 32768 0)) (omega arith))
