@@ -192,7 +192,7 @@ module _ (text : Bytes) (words : List ℕ) (p : Parts) where
 
       gives : {x : Part} {n : ℕ} {r : PartRead} → own-part ≡ done (partMeans text words x) (spansFrom words n) → s .number < n
           → partLinked text words x → r ≡ PartRead.Part x (partsAt p n) → PartIs text words p r
-      gives e l k q = subst (λ z. PartIs text words p z) (sym q) (record { means = record { first = part-first e; onward = omega arith; inside = omega arith; linked = k } })
+      gives e l k q = subst (λ z. PartIs text words p z) (sym q) (record { means = record { first = part-first e; link = refl; onward = omega arith; inside = omega arith; linked = k } })
 
       fails : {f : Fault} → own-part ≡ failed (faultMeans f) → PartIs text words p (PartRead.Failed f)
       fails e = record { means = part-first e }

@@ -1,11 +1,11 @@
--- `Fuel`, `Equations`, `Cases` and `Lists` are for the crates above; the others serve this crate's proofs alone.
+-- `Fuel`, `Equations`, `Cases`, `Order` and `Lists` are for the crates above; the others serve this crate's proofs alone.
 pub mod Fuel
 pub mod Equations
 pub mod Cases
+pub mod Order
 pub mod Lists
 mod Bound
 mod SmallLaws
 mod Laws
-mod Order
 mod KeyLaws
 mod AgainLaws

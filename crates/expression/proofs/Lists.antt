@@ -25,10 +25,10 @@ use Rattle.expression.specs.declared.again.Bound.the-variants as Bound
 use Rattle.expression.specs.declared.again.KeyStep.the-variants as KeyStep
 
 -- what was read is read but once
-one : {A : Type 0} {o : Read A} {x y : A} → Reads o x → Reads o y → x ≡ y
+pub one : {A : Type 0} {o : Read A} {x y : A} → Reads o x → Reads o y → x ≡ y
 one h k = let e = sym (h .reads) ∙ k .reads in cc
 
-not-failed : {A : Type 0} {o : Read A} {x : A} {f : Fault} → Reads o x → o ≡ failed f → ⊥
+pub not-failed : {A : Type 0} {o : Read A} {x : A} {f : Fault} → Reads o x → o ≡ failed f → ⊥
 not-failed h e = let z : _≡_ {A = ℕ} 0 1 = cc in absurd (omega arith)
 
 reads-mapped : {A B : Type 0} (f : A → B) {o : Read A} {x : A} → Reads o x → Reads (mapped f o) (f x)
@@ -43,11 +43,11 @@ pub record Tail {A B : Type 0} (f : A → B) (o : Read A) (y : B) : Type 0 where
   pub same : y ≡ f value
   pub reads : Reads o value
 
-tail : {A B : Type 0} (f : A → B) (o : Read A) {y : B} → Reads (mapped f o) y → Tail f o y
+pub tail : {A B : Type 0} (f : A → B) (o : Read A) {y : B} → Reads (mapped f o) y → Tail f o y
 tail f (done a r) h = record { value = a; same = let e = h .reads in cc; reads = record { rest = r; reads = refl } }
 tail f (failed e) h = let q = h .reads in let z : _≡_ {A = ℕ} 0 1 = cc in absurd (omega arith)
 
-along : {A : Type 0} {o p : Read A} {x : A} → o ≡ p → Reads o x → Reads p x
+pub along : {A : Type 0} {o p : Read A} {x : A} → o ≡ p → Reads o x → Reads p x
 along e h = record { rest = h .rest; reads = sym e ∙ h .reads }
 
 -- ---- one answer, where the list is known

@@ -216,9 +216,10 @@ partsRead text words p = readParts text (p .depth) (p .limit) (spansFrom words (
 abbrev pub partsAt : Parts → ℕ → Parts
 partsAt p next = record { from = next; limit = p .limit; depth = p .depth }
 
--- x is the first part of p's, and those of q are the others
+-- x is the first part of p's, and those of q, the same link from another number on, are the others
 pub record FirstPart (text : Bytes) (words : List ℕ) (p : Parts) (x : Part) (q : Parts) : Type 0 where
   pub first : partsRead text words p ≡ mapped (λ xs. partMeans text words x ∷ xs) (partsRead text words q)
+  pub link : q ≡ partsAt p (q .from)
   pub onward : p .from < q .from
   pub inside : p .from < spanCount words
   pub linked : partLinked text words x

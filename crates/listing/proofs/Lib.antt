@@ -7,5 +7,10 @@ pub mod Writes
 pub mod PathWrites
 pub mod RequoteWrites
 pub mod Size
+pub mod KeyInserts
+pub mod Entries
+pub mod Cells
+pub mod HeldKeys
 pub mod ParamWrites
+pub mod HeldWrites
 pub mod ChildWrites

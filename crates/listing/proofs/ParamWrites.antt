@@ -75,6 +75,10 @@ pub hash-bytes : (k : Bytes) (v : Param)
 unfolding paramForm writeForm
 hash-bytes k v = key-bytes k v noKeys ∙ append-nil _
 
+pub keys-join : (k : Bytes) (v : Param) (ks : Keys)
+    → writeForms (keyForms (key k v ks) nil) ≡ writeForms (keyForms (key k v noKeys) nil) ++ writeForms (keyForms ks nil)
+keys-join k v ks = key-bytes k v ks ∙ ap (_++ writeForms (keyForms ks nil)) (sym (hash-bytes k v))
+
 -- ---- a parameter told by its case
 
 pub param-is : {l m : Bytes} {at r : ℕ} (text : Bytes) (words : List ℕ) {g h : Parameter} → g ≡ h
@@ -218,19 +222,17 @@ module _ {text : Bytes} {words : List ℕ} {p : Parts} {b : Bound} {l m : Bytes}
         let c = ap (λ o. keysSize (readOr noKeys o)) (t .reads .reads) in
         omega arith
 
-    pub keys-on : {n j k : Bytes} {s t u : ℕ} → length l ≤ largest
-        → Written (ascii "[key " ++ (quoted (nameMeans text (h .key)) ++ ascii "\n")) m q n s
-        → Written (writeForm (paramForm (paramMeans text words (h .value)))) n s j t
-        → Written (ascii "]\n") j t k u → KeysLeft text words p l at (Bound.Above (h .key)) k u
-    keys-on {n} {j} {k} {s} {t} {u} z a c d =
+    pub keys-on : {n : Bytes} {s : ℕ} → length l ≤ largest
+        → Written (writeForms (keyForms (key (nameMeans text (h .key)) (paramMeans text words (h .value)) noKeys) nil)) m q n s
+        → KeysLeft text words p l at (Bound.Above (h .key)) n s
+    keys-on z w =
         let y = keys-next (g .reads) i in
         let f = ap keysSize (y .same) in
-        let w = written-then (omega (arith, g .same)) a (written-then (omega (arith, g .same, written-length a)) c d) in
         record {
           keys = y .value;
           reads = y .reads;
           fits = omega (arith, g .fits);
-          whole = λ x r v. g .whole x r (subst (λ o. Written (writeForms (keyForms o nil)) m q x r) (sym (y .same)) (rw (key-bytes _ _ _) (written-then (omega (arith, g .same)) w v)));
+          whole = λ x r v. g .whole x r (subst (λ o. Written (writeForms (keyForms o nil)) m q x r) (sym (y .same)) (rw (keys-join _ _ _) (written-then (omega (arith, g .same)) w v)));
           same = written-length w ∙ g .same;
           position = omega (arith, w .next);
         }

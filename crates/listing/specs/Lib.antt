@@ -6,3 +6,4 @@ pub mod Nesting
 pub mod Listing
 pub mod Written
 pub mod Children
+pub mod Held

@@ -1,5 +1,7 @@
 // Parameters, keys and subexpressions: the children that an expression gives, read again from its
 // links.
+use crate::keys::Held;
+use crate::keys::hold_keys;
 use crate::path::write_path;
 use crate::requote::write_requoted;
 use crate::write::put_bytes;
@@ -12,10 +14,12 @@ use expression::again::next_key;
 use expression::again::next_param;
 use expression::parameter::ExpressionRead;
 use expression::parameter::Hash;
+use expression::parameter::HashRead;
 use expression::parameter::Literal;
 use expression::parameter::Parameter;
 use expression::parameter::Parts;
 use expression::parameter::Subexpression;
+use expression::parse::parse_hash;
 use json_path::path::Name;
 use support::bytes::part;
 ghost use mathlib.Core.List.{_++_};
@@ -27,6 +31,7 @@ ghost use Rattle.expression.specs.Answers.{literalMeans, paramMeans, partsRead,
 ghost use Rattle.expression.specs.declared.parameter.Parameter.the-variants as Parameter;
 ghost use Rattle.listing.specs.Quoted.{quoted};
 ghost use Rattle.listing.specs.Form.{nil, writeForm, writeForms};
+ghost use Rattle.listing.specs.Held.{EntryRead, All, heldKeys};
 ghost use Rattle.listing.specs.Listing.{paramForm, callForms, paramForms, keyForms};
 ghost use Rattle.listing.specs.Written.{Written};
 
@@ -98,8 +103,8 @@ fn write_subexpression(
     put_bytes(out, q, b"]\n")
 }
 
-// Name, parameters, keys in byte order. A link that a reader answered can be read again: these three
-// ask for that, so that `Failed` does not occur in them.
+// Name, parameters, keys in byte order. A link that a reader answered can be read again: this and the
+// writers of all parameters and keys ask for that, so that `Failed` does not occur in them.
 pub(crate) fn write_call(
     out: &mut [u8],
     at: usize,
@@ -139,7 +144,59 @@ fn write_params(out: &mut [u8], at: usize, text: &[u8], words: &[u32], parts: Pa
     }
 }
 
+// Most calls have few keys.
 fn write_keys(out: &mut [u8], at: usize, text: &[u8], words: &[u32], parts: Parts) -> usize
+    requires { ⌜ Readable (partsRead (now text) (now words) parts) ⌝ }
+    ensures { λ r. ⌜ Written (writeForms (keyForms (readOr noKeys (keysRead (now (text .entry)) (now (words .entry)) parts)) nil)) (now (out .entry)) at (now (out .exit)) r ⌝ }
+{
+    let mut held = [0usize; 16];
+    let h = hold_keys(text, words, parts, &mut held);
+    let Held::Keys(n) = h else {
+        return write_many_keys(out, at, text, words, parts);
+    };
+    write_held(out, at, text, words, parts.depth, &held[0..n])
+}
+
+// A key takes three spans: a list of so many spans as are allowed has no more keys than these cells.
+fn write_many_keys(out: &mut [u8], at: usize, text: &[u8], words: &[u32], parts: Parts) -> usize
+    requires { ⌜ Readable (partsRead (now text) (now words) parts) ⌝ }
+    ensures { λ r. ⌜ Written (writeForms (keyForms (readOr noKeys (keysRead (now (text .entry)) (now (words .entry)) parts)) nil)) (now (out .entry)) at (now (out .exit)) r ⌝ }
+{
+    let mut held = [0usize; 1366];
+    let h = hold_keys(text, words, parts, &mut held);
+    let Held::Keys(n) = h else {
+        return write_least_keys(out, at, text, words, parts);
+    };
+    write_held(out, at, text, words, parts.depth, &held[0..n])
+}
+
+// Keys that are held.
+fn write_held(
+    out: &mut [u8],
+    at: usize,
+    text: &[u8],
+    words: &[u32],
+    depth: usize,
+    held: &[usize],
+) -> usize
+    requires { ⌜ All (EntryRead (now text) (now words) depth) (now held) ⌝ }
+    ensures { λ r. ⌜ Written (writeForms (keyForms (heldKeys (now (text .entry)) (now (words .entry)) depth (now (held .entry))) nil)) (now (out .entry)) at (now (out .exit)) r ⌝ }
+{
+    let mut p = at;
+    let mut i = 0;
+    while i < held.len() {
+        let r = parse_hash(text, words, held[i], depth);
+        let HashRead::Done(hash, _) = r else {
+            return p;
+        };
+        p = write_hash(out, p, text, words, hash);
+        i += 1;
+    }
+    p
+}
+
+// However many keys: the parts are read again for each, the least that is left.
+fn write_least_keys(out: &mut [u8], at: usize, text: &[u8], words: &[u32], parts: Parts) -> usize
     requires { ⌜ Readable (partsRead (now text) (now words) parts) ⌝ }
     ensures { λ r. ⌜ Written (writeForms (keyForms (readOr noKeys (keysRead (now (text .entry)) (now (words .entry)) parts)) nil)) (now (out .entry)) at (now (out .exit)) r ⌝ }
 {
@@ -150,10 +207,7 @@ fn write_keys(out: &mut [u8], at: usize, text: &[u8], words: &[u32], parts: Part
         match n {
             KeyStep::Key(h) => {
                 let key = h.key;
-                let value = h.value;
-                let q = write_key(out, p, text, key);
-                let s = write_param(out, q, text, words, value);
-                p = put_bytes(out, s, b"]\n");
+                p = write_hash(out, p, text, words, h);
                 bound = Bound::Above(key);
             }
             KeyStep::End => {
