@@ -509,21 +509,28 @@ def drawn(rng):
     return text, words
 
 
-def main():
+def all_records():
     rng = random.Random(4)
     records = [(t, [int(w) for w in ws.split()]) for t, ws in BY_HAND]
     records += [nested(n) for n in (1, 2, 3, 31, 32, 33)]
-    records += [made(rng, False) for _ in range(40)] + [made(rng, True) for _ in range(40)] + [drawn(rng) for _ in range(30)]
-    stdin, stdout = b"", []
-    for text, words in records:
-        stdin += text.encode() + b"\n" + b" ".join(b"%d" % w for w in words) + b"\n"
-        stdout += lines(text.encode(), words)
+    return records + [made(rng, False) for _ in range(40)] + [made(rng, True) for _ in range(40)] + [drawn(rng) for _ in range(30)]
+
+
+def stored(records):
+    stdin = b"".join(text.encode() + b"\n" + b" ".join(b"%d" % w for w in words) + b"\n" for text, words in records)
     assert len(stdin) <= 65536
+    return stdin
+
+
+def main():
+    records = all_records()
+    stdout = [line for text, words in records for line in lines(text.encode(), words)]
     with open(os.path.join(ROOT, "stdin"), "wb") as f:
-        f.write(stdin)
+        f.write(stored(records))
     with open(os.path.join(ROOT, "stdout"), "wb") as f:
         f.write(b"\n".join(stdout) + b"\n")
-    print(len(records), "records,", len(stdin), "bytes in,", sum(len(x) + 1 for x in stdout), "out")
+    print(len(records), "records,", len(stored(records)), "bytes in,", sum(len(x) + 1 for x in stdout), "out")
 
 
-main()
+if __name__ == "__main__":
+    main()
