@@ -14,3 +14,6 @@ pub mod Reason
 pub mod Input
 pub mod Total
 pub mod ProvedSet
+pub mod Element
+pub mod Store
+pub mod Visit

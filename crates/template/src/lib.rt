@@ -1,1 +1,8 @@
-// The walk over the spans and `compile2`. So far its definitions (specs/) and their theorems (proofs/).
+// types
+pub mod compile;
+pub mod element;
+pub mod frame;
+pub mod reason;
+pub mod tag;
+pub mod turn;
+pub mod visit;
