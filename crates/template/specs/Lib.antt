@@ -17,3 +17,4 @@ pub mod ProvedSet
 pub mod Element
 pub mod Store
 pub mod Visit
+pub mod Answers
