@@ -55,7 +55,7 @@ pub written-all : {l m : Bytes} {at p : ℕ} (s : Bytes) (i : ℕ) → length s 
 written-all s i h a = rw (take-all i s h) at a
 
 -- the same of its bytes as quoted text writes them
-escaped-append : (s t : Bytes) → escaped (s ++ t) ≡ escaped s ++ escaped t
+pub escaped-append : (s t : Bytes) → escaped (s ++ t) ≡ escaped s ++ escaped t
 unfolding escaped
 escaped-append [] t = refl
 escaped-append (c ∷ s) t = ap (escape c ++_) (escaped-append s t) ∙ sym (append-assoc (escape c) (escaped s) (escaped t))

@@ -10,3 +10,9 @@ pub mod Numbers
 pub mod OneListing
 pub mod ProvedSet
 pub mod OneFault
+pub mod PieceTrims
+pub mod CutLaws
+pub mod CutTrims
+pub mod CutNewline
+pub mod RawEscapes
+pub mod CutWrites

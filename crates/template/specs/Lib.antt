@@ -15,6 +15,7 @@ pub mod Input
 pub mod Total
 pub mod ProvedSet
 pub mod Element
+pub mod Raw
 pub mod Store
 pub mod Visit
 pub mod Answers

@@ -2,6 +2,7 @@
 pub mod compile;
 pub mod element;
 pub mod frame;
+pub mod raw;
 pub mod reason;
 pub mod tag;
 pub mod turn;
