@@ -115,7 +115,7 @@ fn trim_front(text: &[u8], words: &[u32], cut: Cut, white: bool) -> Cut
     }
 }
 
-// The first byte that is not removed stands at the front.
+// The first byte that is not removed stands at the front. Only the contract asks for the text.
 fn skip_removed(text: &[u8], words: &[u32], cut: Cut) -> Cut
     requires { ⌜ CutGood (now text) (now words) cut ⌝ }
     ensures { λ r. ⌜ Skipped (now (text .entry)) (now (words .entry)) cut r ⌝ }
