@@ -16,3 +16,6 @@ pub mod CutTrims
 pub mod CutNewline
 pub mod RawEscapes
 pub mod CutWrites
+pub mod ReasonLaws
+pub mod CheckLaws
+pub mod EscapeLaws

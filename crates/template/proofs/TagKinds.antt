@@ -1,9 +1,13 @@
--- Tags past 20 are skipped.
-use Prim.Native.Nat.{ℕ, _≤_}
+-- What kind a tag is, by the ranges that the code asks for: what holds of the kinds of a range holds of each tag in it. A tag of a
+-- range is compared with its numbers in turn. Tags past 20 are skipped.
+use Prim.Native.Nat.{ℕ, suc, _≤_, _<_}
 use native.Mathlib.Omega.{arith}
-use mathlib.Core.Path.{_≡_, refl}
+use mathlib.Core.Path.{_≡_, refl, sym, subst}
+use mathlib.Core.Bool.{Bool, true, false}
+use lib.Dec.{eqb, ltb}
 use lib.ListN.{length, List·getD-eq-default}
-use Rattle.template.specs.Kind.{plain, skipped, kinds, kindOf}
+use borrow.Author.Tests.{eqb-true, eqb-false, ltb-true, ltb-false}
+use Rattle.template.specs.Kind.{BlockKind, helperBlock, rawBlock, decoratorBlock, partialBlock, Plain, skipped, template, rawText, rawBlockText, commentCompact, comment, Tag, blockStart, invertTag, invertChainTag, expression, htmlExpression, decoratorExpression, partialExpression, blockEnd, Kind, plain, tagged, kinds, kindOf}
 
 kinds-length : length kinds ≡ 21
 unfolding kinds
@@ -11,3 +15,72 @@ kinds-length = refl
 
 pub kind-skipped : (t : ℕ) → 21 ≤ t → kindOf t ≡ plain skipped
 kind-skipped t h = List·getD-eq-default kinds (plain skipped) (omega (arith, kinds-length))
+
+-- the first number of a range, or a later one
+pub either : (P : ℕ → Type 0) (t a : ℕ) → a ≤ t → P a → (suc a ≤ t → P t) → P t
+either P t a h p f = go (eqb t a) refl
+  where
+    go : (b : Bool) → eqb t a ≡ b → P t
+    go true e = subst P (sym (eqb-true t a e)) p
+    go false e = let n = eqb-false t a e in f (omega arith)
+
+module _ (Q : Kind → Type 0) (t : ℕ) where
+  abbrev At : ℕ → Type 0
+  At n = Q (kindOf n)
+
+  pub kind-low : t < 5 → ((k : Plain) → Q (plain k)) → Q (kindOf t)
+  unfolding kinds
+  kind-low u q =
+      either At t 0 (omega arith) (q skipped) (λ h. either At t 1 h (q template) (λ h. either At t 2 h (q rawText)
+      (λ h. either At t 3 h (q rawBlockText) (λ h. either At t 4 h (q skipped) (λ h. absurd (omega arith))))))
+
+  pub kind-start : 5 ≤ t → t ≤ 8 → ((k : BlockKind) → Q (tagged (blockStart k))) → Q (kindOf t)
+  unfolding kinds
+  kind-start l u q =
+      either At t 5 l (q helperBlock) (λ h. either At t 6 h (q rawBlock) (λ h. either At t 7 h (q decoratorBlock)
+      (λ h. either At t 8 h (q partialBlock) (λ h. absurd (omega arith)))))
+
+  pub kind-else : 9 ≤ t → t ≤ 10 → Q (tagged invertTag) → Q (tagged invertChainTag) → Q (kindOf t)
+  unfolding kinds
+  kind-else l u a b = either At t 9 l a (λ h. either At t 10 h b (λ h. absurd (omega arith)))
+
+  pub kind-leaf : 11 ≤ t → t ≤ 14 → Q (tagged expression) → Q (tagged htmlExpression) → Q (tagged decoratorExpression) → Q (tagged partialExpression) → Q (kindOf t)
+  unfolding kinds
+  kind-leaf l u a b c d =
+      either At t 11 l a (λ h. either At t 12 h b (λ h. either At t 13 h c (λ h. either At t 14 h d (λ h. absurd (omega arith)))))
+
+  pub kind-end : 15 ≤ t → t ≤ 18 → ((k : BlockKind) → Q (tagged (blockEnd k))) → Q (kindOf t)
+  unfolding kinds
+  kind-end l u q =
+      either At t 15 l (q helperBlock) (λ h. either At t 16 h (q rawBlock) (λ h. either At t 17 h (q decoratorBlock)
+      (λ h. either At t 18 h (q partialBlock) (λ h. absurd (omega arith)))))
+
+  pub kind-comment : 19 ≤ t → t ≤ 20 → Q (plain commentCompact) → Q (plain comment) → Q (kindOf t)
+  unfolding kinds
+  kind-comment l u a b = either At t 19 l a (λ h. either At t 20 h b (λ h. absurd (omega arith)))
+
+  -- behind the tags with an expression
+  pub kind-late : 19 ≤ t → ((k : Plain) → Q (plain k)) → Q (kindOf t)
+  unfolding kinds
+  kind-late l q = either At t 19 l (q commentCompact) (λ h. either At t 20 h (q comment) (λ h. subst Q (sym (kind-skipped t h)) (q skipped)))
+
+  -- ahead of the end tags
+  pub kind-before : t < 15 → ((k : Plain) → Q (plain k)) → ((k : BlockKind) → Q (tagged (blockStart k))) → Q (tagged invertTag) → Q (tagged invertChainTag)
+      → Q (tagged expression) → Q (tagged htmlExpression) → Q (tagged decoratorExpression) → Q (tagged partialExpression) → Q (kindOf t)
+  kind-before u p s a b c d e f = go (ltb t 5) refl (ltb t 9) refl (ltb t 11) refl
+    where
+      go : (x : Bool) → ltb t 5 ≡ x → (y : Bool) → ltb t 9 ≡ y → (z : Bool) → ltb t 11 ≡ z → Q (kindOf t)
+      go true h y i z j = kind-low (ltb-true t 5 h) p
+      go false h true i z j = let l = ltb-false t 5 h in let m = ltb-true t 9 i in kind-start l (omega arith) s
+      go false h false i true j = let l = ltb-false t 9 i in let m = ltb-true t 11 j in kind-else l (omega arith) a b
+      go false h false i false j = let l = ltb-false t 11 j in kind-leaf l (omega arith) c d e f
+
+  -- behind the else tags
+  pub kind-behind : 11 ≤ t → Q (tagged expression) → Q (tagged htmlExpression) → Q (tagged decoratorExpression) → Q (tagged partialExpression)
+      → ((k : BlockKind) → Q (tagged (blockEnd k))) → ((k : Plain) → Q (plain k)) → Q (kindOf t)
+  kind-behind l a b c d e p = go (ltb t 15) refl (ltb t 19) refl
+    where
+      go : (x : Bool) → ltb t 15 ≡ x → (y : Bool) → ltb t 19 ≡ y → Q (kindOf t)
+      go true h y i = let m = ltb-true t 15 h in kind-leaf l (omega arith) a b c d
+      go false h true i = let m = ltb-true t 19 i in kind-end (ltb-false t 15 h) (omega arith) e
+      go false h false i = kind-late (ltb-false t 19 i) p

@@ -19,3 +19,5 @@ pub mod Raw
 pub mod Store
 pub mod Visit
 pub mod Answers
+pub mod Checked
+pub mod Asked
