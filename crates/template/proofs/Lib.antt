@@ -19,3 +19,4 @@ pub mod CutWrites
 pub mod ReasonLaws
 pub mod CheckLaws
 pub mod EscapeLaws
+pub mod TagLaws

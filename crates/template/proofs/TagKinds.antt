@@ -2,11 +2,11 @@
 -- range is compared with its numbers in turn. Tags past 20 are skipped.
 use Prim.Native.Nat.{ℕ, suc, _≤_, _<_}
 use native.Mathlib.Omega.{arith}
-use mathlib.Core.Path.{_≡_, refl, sym, subst}
+use mathlib.Core.Path.{_≡_, refl, sym, ap, subst, _∙_}
 use mathlib.Core.Bool.{Bool, true, false}
 use lib.Dec.{eqb, ltb}
 use lib.ListN.{length, List·getD-eq-default}
-use borrow.Author.Tests.{eqb-true, eqb-false, ltb-true, ltb-false}
+use borrow.Author.Tests.{eqb-true, eqb-false, ltb-true, ltb-false, ne-eqb}
 use Rattle.template.specs.Kind.{BlockKind, helperBlock, rawBlock, decoratorBlock, partialBlock, Plain, skipped, template, rawText, rawBlockText, commentCompact, comment, Tag, blockStart, invertTag, invertChainTag, expression, htmlExpression, decoratorExpression, partialExpression, blockEnd, Kind, plain, tagged, kinds, kindOf}
 
 kinds-length : length kinds ≡ 21
@@ -84,3 +84,40 @@ module _ (Q : Kind → Type 0) (t : ℕ) where
       go true h y i = let m = ltb-true t 15 h in kind-leaf l (omega arith) a b c d
       go false h true i = let m = ltb-true t 19 i in kind-end (ltb-false t 15 h) (omega arith) e
       go false h false i = kind-late (ltb-false t 19 i) p
+
+-- tag 10 alone begins an else-if
+
+abbrev beginsChain : Kind → Bool
+beginsChain (plain k) = false
+beginsChain (tagged (blockStart k)) = false
+beginsChain (tagged invertTag) = false
+beginsChain (tagged invertChainTag) = true
+beginsChain (tagged expression) = false
+beginsChain (tagged htmlExpression) = false
+beginsChain (tagged decoratorExpression) = false
+beginsChain (tagged partialExpression) = false
+beginsChain (tagged (blockEnd k)) = false
+
+abbrev No : Kind → Type 0
+No k = beginsChain k ≡ false
+
+abbrev Ten : ℕ → Type 0
+Ten n = beginsChain (kindOf n) ≡ eqb n 10
+
+begins-chain : (t : ℕ) → Ten t
+unfolding kinds
+begins-chain t = go (ltb t 9) refl
+  where
+    other : (t ≡ 10 → ⊥) → No (kindOf t) → Ten t
+    other n e = e ∙ sym (ne-eqb t 10 n)
+
+    early : (b : Bool) → ltb t 5 ≡ b → t < 9 → No (kindOf t)
+    early true h l = kind-low No t (ltb-true t 5 h) (λ k. refl)
+    early false h l = kind-start No t (ltb-false t 5 h) (omega arith) (λ k. refl)
+
+    go : (b : Bool) → ltb t 9 ≡ b → Ten t
+    go true h = let l = ltb-true t 9 h in other (λ e. omega arith) (early (ltb t 5) refl l)
+    go false h = let l = ltb-false t 9 h in either Ten t 9 l refl (λ l. either Ten t 10 l refl (λ l. other (λ e. omega arith) (kind-behind No t l refl refl refl refl (λ k. refl) (λ k. refl))))
+
+pub chain-tag : (t : ℕ) → kindOf t ≡ tagged invertChainTag → t ≡ 10
+chain-tag t e = eqb-true t 10 (sym (begins-chain t) ∙ ap beginsChain e)

@@ -21,3 +21,4 @@ pub mod Visit
 pub mod Answers
 pub mod Checked
 pub mod Asked
+pub mod TagRead
