@@ -22,3 +22,5 @@ pub mod Answers
 pub mod Checked
 pub mod Asked
 pub mod TagRead
+pub mod Links
+pub mod Turn

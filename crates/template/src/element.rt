@@ -4,6 +4,9 @@ use expression::parameter::Parameter;
 use expression::parameter::Subexpression;
 use json_path::path::Name;
 use support::position::Place;
+ghost use mathlib.Core.Path.{_≡_};
+ghost use Rattle.template.specs.Element.{newElement};
+ghost use Rattle.template.specs.Links.{inverseNode, followedBy, setTemplate, setInverse, trimEndOf, moreOf, BlockNameIs};
 
 // How the front of a text is trimmed: not at all; blanks, then the first newline; White_Space.
 pub enum Front {
@@ -93,4 +96,151 @@ impl Element {
         inverted: false,
         chain: false,
     };
+
+    pub(crate) fn new(element: TemplateElement, place: Place) -> Element
+        ensures { λ r. ⌜ r ≡ newElement element place ⌝ }
+    {
+        Element {
+            element: element,
+            place: place,
+            next: 0,
+            template: 0,
+            inverse: 0,
+            inverted: false,
+            chain: false,
+        }
+    }
+
+    // An else-if node: it has no place, and links to the node before it.
+    pub(crate) fn insert_inverse_node(self, before: usize) -> Element
+        ensures { λ r. ⌜ r ≡ inverseNode self before ⌝ }
+    {
+        let e = self.element;
+        Element {
+            element: e,
+            place: Place { line: 0, column: 0 },
+            next: 0,
+            template: 0,
+            inverse: before,
+            inverted: false,
+            chain: true,
+        }
+    }
+
+    // With `at` after it.
+    pub(crate) fn followed_by(self, at: usize) -> Element
+        ensures { λ r. ⌜ r ≡ followedBy self at ⌝ }
+    {
+        let e = self.element;
+        let p = self.place;
+        Element {
+            element: e,
+            place: p,
+            next: at,
+            template: self.template,
+            inverse: self.inverse,
+            inverted: self.inverted,
+            chain: self.chain,
+        }
+    }
+
+    // With the body that begins at `at`.
+    pub(crate) fn set_template(self, at: usize) -> Element
+        ensures { λ r. ⌜ r ≡ setTemplate self at ⌝ }
+    {
+        let e = self.element;
+        let p = self.place;
+        Element {
+            element: e,
+            place: p,
+            next: self.next,
+            template: at,
+            inverse: self.inverse,
+            inverted: self.inverted,
+            chain: self.chain,
+        }
+    }
+
+    // With the else that begins at `at`, if there is one.
+    pub(crate) fn set_inverse(self, at: usize, inverted: bool, chain: bool) -> Element
+        ensures { λ r. ⌜ r ≡ setInverse self at inverted chain ⌝ }
+    {
+        let e = self.element;
+        let p = self.place;
+        Element {
+            element: e,
+            place: p,
+            next: self.next,
+            template: self.template,
+            inverse: at,
+            inverted: inverted,
+            chain: chain,
+        }
+    }
+
+    // A text's end trimmed; what is trimmed by White_Space has no blanks left.
+    pub(crate) fn trim_end(self, back: Back) -> Element
+        ensures { λ r. ⌜ r ≡ trimEndOf self back ⌝ }
+    {
+        let e = self.element;
+        let p = self.place;
+        if let TemplateElement::RawString(r) = e {
+            let f = r.front;
+            let b = r.back;
+            let joined = more_of(b, back);
+            return Element {
+                element: TemplateElement::RawString(RawString {
+                    start: r.start,
+                    end: r.end,
+                    escapes: r.escapes,
+                    front: f,
+                    back: joined,
+                }),
+                place: p,
+                next: self.next,
+                template: self.template,
+                inverse: self.inverse,
+                inverted: self.inverted,
+                chain: self.chain,
+            };
+        }
+        self
+    }
+
+    // The name of a block's opening tag.
+    pub(crate) fn name(self) -> AsName
+        ensures { λ r. ⌜ BlockNameIs (self .element) r ⌝ }
+    {
+        let e = self.element;
+        match e {
+            TemplateElement::HelperBlock(h) => {
+                let n = h.name;
+                n.as_name()
+            }
+            TemplateElement::DecoratorBlock(d) => {
+                let n = d.name;
+                n.as_name()
+            }
+            TemplateElement::PartialBlock(d) => {
+                let n = d.name;
+                n.as_name()
+            }
+            _ => AsName::None,
+        }
+    }
+}
+
+// One trim of an end after another.
+fn more_of(first: Back, then: Back) -> Back
+    ensures { λ r. ⌜ r ≡ moreOf first then ⌝ }
+{
+    match then {
+        Back::Kept => first,
+        Back::White => Back::White,
+        Back::Blanks => match first {
+            Back::White => Back::White,
+            Back::Kept => Back::Blanks,
+            Back::Blanks => Back::Blanks,
+        },
+    }
 }
