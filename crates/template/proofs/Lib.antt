@@ -20,3 +20,8 @@ pub mod ReasonLaws
 pub mod CheckLaws
 pub mod EscapeLaws
 pub mod TagLaws
+pub mod Store
+pub mod Nesting
+pub mod Levels
+pub mod Fits
+pub mod OpenSteps
