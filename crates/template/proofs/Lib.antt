@@ -25,3 +25,4 @@ pub mod Nesting
 pub mod Levels
 pub mod Fits
 pub mod OpenSteps
+pub mod CloseSteps
