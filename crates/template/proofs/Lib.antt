@@ -26,3 +26,5 @@ pub mod Levels
 pub mod Fits
 pub mod OpenSteps
 pub mod CloseSteps
+pub mod Trims
+pub mod Turns
