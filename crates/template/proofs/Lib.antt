@@ -28,3 +28,4 @@ pub mod OpenSteps
 pub mod CloseSteps
 pub mod Trims
 pub mod Turns
+pub mod Ready

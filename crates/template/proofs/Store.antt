@@ -235,6 +235,11 @@ module _ (text : Bytes) (words : List ℕ) where
 
   -- ---- the last element is changed
 
+  pub ends-snoc : (st : List Element) (r : Body) (g : Elem) (p l z lo hi : ℕ) → Chain text words st p l z lo hi (snoc r g) → (lo ≤ z) × (z < hi)
+  unfolding snoc
+  ends-snoc st end g p l z lo hi c = ends st (then g end) p l z lo hi c
+  ends-snoc st (then e r) g p l z lo hi c = ends st (then e (snoc r g)) p l z lo hi c
+
   module _ (st st′ : List Element) (e e′ : Elem) (z hi : ℕ) (next : elementAt st′ z .next ≡ elementAt st z .next)
       (turn : (m : ℕ) → Same st st′ (z + 1) m → Node text words st z m e → Node text words st′ z m e′) where
     pub retouch : (r : Body) (p l lo : ℕ) → SameBut st st′ z lo hi → Chain text words st p l z lo hi (snoc r e) → Chain text words st′ p l z lo hi (snoc r e′)
@@ -253,7 +258,7 @@ module _ (text : Bytes) (words : List ℕ) where
         )
     retouch (then e₁ r) p l lo s c =
         let m = c .0 in
-        let far : m ≤ z = behind r (c .5) in
+        let far : m ≤ z = ends-snoc st r e l (elementAt st l .next) z m hi (c .5) .0 in
         let q : elementAt st′ l ≡ elementAt st l = s l (c .1) (omega (arith, c .2, c .3)) (λ n. omega (arith, n, c .2, far)) in (
           m,
           c .1,
@@ -263,7 +268,3 @@ module _ (text : Bytes) (words : List ℕ) where
           subst (λ (v : Element). Chain text words st′ l (v .next) z m hi (snoc r e′)) (sym q)
               (retouch r l (elementAt st l .next) m (λ i x t n. s i (omega (arith, c .1, c .2, x)) t n) (c .5)),
         )
-      where
-        behind : {m′ : ℕ} (r : Body) → Chain text words st l (elementAt st l .next) z m′ hi (snoc r e) → m′ ≤ z
-        behind end d = ends st (then e end) l (elementAt st l .next) z _ hi d .0
-        behind (then e₂ r) d = ends st (then e₂ (snoc r e)) l (elementAt st l .next) z _ hi d .0
