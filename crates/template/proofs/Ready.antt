@@ -19,9 +19,11 @@ use Rattle.template.specs.Element.{emptyElement, backTrim}
 use Rattle.template.specs.Store.{elementAt, Chain}
 use Rattle.template.specs.Visit.{leafMeans, GapMade}
 use Rattle.template.specs.Links.{followedBy, trimEndOf}
+use Rattle.template.specs.Links as Links
 use Rattle.template.specs.Turn.{refChainHead, filled, joinedOf, gappedOf}
 use Rattle.template.specs.declared.element.Back.{Back}
 use Rattle.template.specs.declared.element.Back.the-variants as Back
+use Rattle.template.specs.declared.element.TemplateElement.{TemplateElement}
 use Rattle.template.specs.declared.element.Element.{Element}
 use Rattle.template.specs.declared.frame.Frame.{Frame}
 use Rattle.template.specs.declared.turn.Joined.{Joined}
@@ -32,7 +34,7 @@ use Rattle.template.proofs.Levels.{frameAt, Lead, lead-low, frame-lead,
 use Rattle.template.proofs.Fits.{Filling, Fits, frame-fits, fits-last}
 use Rattle.template.proofs.OpenSteps.{Still, Waits, Mid, skip-step, add-step}
 use Rattle.template.proofs.Trims.{trim-node, trim-kept}
-use Rattle.template.proofs.Turns.{Kept, Planned}
+use Rattle.template.proofs.Turns.{Kept, Planned, bottom-other, bottom-same}
 
 -- what is open does not ask for elements
 pub open-same : (o : Owner) (es fs : List Elem) → openOf (level o es) ≡ openOf (level o fs)
@@ -88,8 +90,16 @@ module _ (text : Bytes) (words : List ℕ) where
         e : Element
         e = elementAt st (x .last)
 
-        kept : (v : Element) (x′ : Frame) → Fits text words (set st (x .last) v) lv x′ depth len count closing l ls → Kept text words n (set st (x .last) v) lv x′ depth len count closing l ls
-        kept v x′ c = record { fits = c; pos = p .pos; long = length-set st (x .last) v ∙ p .long; wide = p .wide; cap = p .cap }
+        kept : (v : Element) (x′ : Frame) → v .element ≡ e .element → Fits text words (set st (x .last) v) lv x′ depth len count closing l ls → Kept text words n (set st (x .last) v) lv x′ depth len count closing l ls
+        kept v x′ q c =
+            record {
+              fits = c;
+              pos = p .pos;
+              long = length-set st (x .last) v ∙ p .long;
+              wide = p .wide;
+              cap = p .cap;
+              bottom = bottom-same st (x .last) v (omega (arith, mid-last, p .long)) (λ z. q ∙ ap (λ (i : ℕ). elementAt st i .element) z ∙ p .bottom) (p .bottom);
+            }
 
         become : (st′ : List Element) (first′ : ℕ) → 0 < at → Linked text words st st′ (x .first) first′ (x .last) at → Fits text words st′ lv (filled x first′ at) depth len count closing l ls
         become st′ first′ a j =
@@ -107,15 +117,15 @@ module _ (text : Bytes) (words : List ℕ) where
         by-last : (b : Bool) → eqb (x .last) 0 ≡ b → (at ≡ 0 → ⊥) → Goal (joinedOf x e at)
         by-last true q a =
             subst Goal (sym (rw (ne-eqb at 0 a, q)))
-            (kept e (filled x at at) (become _ at (omega (arith, a)) (inl (eqb-true (x .last) 0 q, refl, still))))
+            (kept e (filled x at at) refl (become _ at (omega (arith, a)) (inl (eqb-true (x .last) 0 q, refl, still))))
         by-last false q a =
             subst Goal (sym (rw (ne-eqb at 0 a, q)))
-            (kept (followedBy e at) (filled x (x .first) at) (become _ (x .first) (omega (arith, a)) (inr (eqb-false (x .last) 0 q, refl, refl))))
+            (kept (followedBy e at) (filled x (x .first) at) refl (become _ (x .first) (omega (arith, a)) (inr (eqb-false (x .last) 0 q, refl, refl))))
 
         by-none : (b : Bool) → eqb at 0 ≡ b → Goal (joinedOf x e at)
         by-none true q =
             subst Goal (sym (rw q))
-            (kept e x (⊎-elim (λ w. subst (λ (v : List Element). Fits text words v lv x depth len count closing l ls) (sym still) (w .fits)) (λ w. absurd (omega (arith, eqb-true at 0 q, w .here))) (p .mid)))
+            (kept e x refl (⊎-elim (λ w. subst (λ (v : List Element). Fits text words v lv x depth len count closing l ls) (sym still) (w .fits)) (λ w. absurd (omega (arith, eqb-true at 0 q, w .here))) (p .mid)))
         by-none false q = by-last (eqb (x .last) 0) refl (eqb-false at 0 q)
 
   -- ---- the gap joins
@@ -137,6 +147,7 @@ module _ (text : Bytes) (words : List ℕ) where
           long = length-set st len e ∙ k .long;
           wide = k .wide;
           cap = k .cap;
+          bottom = bottom-other st len e (k .pos) (k .bottom);
         }
 
     gap-some : (e : Element) → GapMade text words true e → Kept text words n st lv x depth len count false l ls → Planned text words n (set st len e) lv x depth (len + 1) count false len (gapTop true e l) ls
@@ -147,6 +158,7 @@ module _ (text : Bytes) (words : List ℕ) where
           long = length-set st len e ∙ k .long;
           wide = k .wide;
           cap = k .cap;
+          bottom = bottom-other st len e (k .pos) (k .bottom);
         }
       where
         go : (l : Level) → Fits text words st lv x depth len count false l ls → Mid text words (set st len e) lv x depth (len + 1) count false len (gapTop true e l) ls
@@ -159,6 +171,12 @@ module _ (text : Bytes) (words : List ℕ) where
     gapped closing false e g c m q k = rw q (gap-none closing emptyElement k)
     gapped false true e g c m q k = rw q (gap-some e m k)
     gapped true true e g c m q k = absurd (let z : _≡_ {A = ℕ} 0 1 = (let f = c refl in cc) in omega (arith, z))
+
+    -- how many elements there are then
+    pub gap-len : (closing kept : Bool) (e : Element) (g : Gapped) → (closing ≡ true → kept ≡ false) → g ≡ gappedOf kept e len → (len ≤ g .len) × (g .len ≤ len + 1) × (closing ≡ true → g .len ≡ len)
+    unfolding gappedOf
+    gap-len closing false e g c q = rw q (omega arith, omega arith, λ z. refl)
+    gap-len closing true e g c q = rw q (omega arith, omega arith, λ z. absurd (let y : _≡_ {A = ℕ} 0 1 = (let f = c z in cc) in omega (arith, y)))
 
   -- ---- the last text is trimmed
 
@@ -222,4 +240,5 @@ module _ (text : Bytes) (words : List ℕ) where
           long = length-set st (x .last) _ ∙ k .long;
           wide = k .wide;
           cap = k .cap;
+          bottom = bottom-same st (x .last) _ (omega (arith, low, k .long)) (λ i. ap (λ (v : TemplateElement). Links.trimmed v b) (ap (λ (j : ℕ). elementAt st j .element) i ∙ k .bottom)) (k .bottom);
         })

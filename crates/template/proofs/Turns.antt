@@ -20,6 +20,7 @@ use Rattle.template.specs.Element as role
 use Rattle.template.specs.Store.{elementAt}
 use Rattle.template.specs.Visit.{OpenedIs, leafMeans, ownerMeans, actEffect, Allowed, Made}
 use Rattle.template.specs.Turn.{emptyFrame, begun, refChainHead, closePlan, shutPlan, templatePlan, actPlan, planOf, turnOf}
+use Rattle.template.specs.declared.element.TemplateElement.the-variants as E
 use Rattle.template.specs.declared.element.Element.{Element}
 use Rattle.template.specs.declared.frame.Frame.{Frame}
 use Rattle.template.specs.declared.frame.Opened.{Opened}
@@ -63,10 +64,27 @@ abbrev pub openAt : List Element → List Frame → Frame → ℕ → ℕ → �
 openAt st lv x depth len count =
     record { top = x; below = frameAt lv (depth - 1); owner = elementAt st (refChainHead (x .block) (x .head)); depth = depth; len = len; count = count }
 
--- a closing turn leaves fewer open, another one more at most
-abbrev pub Pays : Bool → ℕ → ℕ → Type 0
-Pays true n count = n < count
-Pays false n count = n ≤ count + 1
+-- a closing turn leaves fewer open and makes nothing; another one leaves one more open at most and makes one element at most
+abbrev pub Pays : Bool → ℕ → ℕ → ℕ → ℕ → Type 0
+Pays true count′ count len′ len = (count′ < count) × (len′ ≡ len)
+Pays false count′ count len′ len = (count′ ≤ count + 1) × (len′ ≤ len + 1)
+
+-- number 0 is no element
+abbrev pub Bottom : List Element → Type 0
+Bottom st = elementAt st 0 .element ≡ E.Empty
+
+pub bottom-other : (st : List Element) (i : ℕ) (e : Element) → 1 ≤ i → Bottom st → Bottom (set st i e)
+bottom-other st i e h b = ap (λ (v : Element). v .element) (at-other st i 0 e (λ q. omega (arith, q, h))) ∙ b
+
+-- what is stored there is no element either
+pub bottom-same : (st : List Element) (i : ℕ) (e : Element) → i < length st → (i ≡ 0 → e .element ≡ E.Empty) → Bottom st → Bottom (set st i e)
+bottom-same st i e h f b = go (eqb i 0) refl
+  where
+    go : (u : Bool) → eqb i 0 ≡ u → Bottom (set st i e)
+    go true q =
+        let z = eqb-true i 0 q in
+        ap (λ (v : Element). v .element) (subst (λ (j : ℕ). elementAt (set st i e) j ≡ e) z (at-same st i e h)) ∙ f z
+    go false q = bottom-other st i e (omega (arith, eqb-false i 0 q)) b
 
 module _ (text : Bytes) (words : List ℕ) where
   -- what the loop keeps of the store, which has room for n elements
@@ -76,6 +94,7 @@ module _ (text : Bytes) (words : List ℕ) where
     pub long : length st ≡ n
     pub wide : length lv ≡ 64
     pub cap : count ≤ 64
+    pub bottom : Bottom st
 
   -- what holds between the two halves of a turn
   pub record Planned (n : ℕ) (st : List Element) (lv : List Frame) (x : Frame) (depth len count : ℕ) (closing : Bool) (at : ℕ) (l : Level) (ls : List Level) : Type 0 where
@@ -84,13 +103,13 @@ module _ (text : Bytes) (words : List ℕ) where
     pub long : length st ≡ n
     pub wide : length lv ≡ 64
     pub cap : count ≤ 64
+    pub bottom : Bottom st
 
   -- what a plan does, and the slot that it stores in
   pub record Turned (n : ℕ) (st : List Element) (lv : List Frame) (w len count : ℕ) (closing : Bool) (p : Plan) (l : Level) (ls : List Level) : Type 0 where
     pub turn : Planned n (set (set st len (p .made)) w (p .owner)) (set lv (p .slot) (p .put)) (p .top) (p .depth) (p .len) (p .count) (p .closing) (p .join) l ls
     pub slot : p .slot < 64
-    pub grows : p .len ≤ len + 1
-    pub pays : Pays closing (p .count) count
+    pub pays : Pays closing (p .count) count (p .len) len
 
   module _ (n : ℕ) (st : List Element) (lv : List Frame) (x : Frame) (depth len count : ℕ) (room : len < n) where
     abbrev pub Goal : Bool → Turn → Level → List Level → Type 0
@@ -111,14 +130,17 @@ module _ (text : Bytes) (words : List ℕ) where
 
       built : (made own : Element) (slot : ℕ) (put x′ : Frame) (depth′ len′ count′ : ℕ) (closing′ : Bool) (at : ℕ) (l′ : Level) (ls′ : List Level)
           → Mid text words (set (set st len made) (refChainHead (x .block) (x .head)) own) (set lv slot put) x′ depth′ len′ count′ closing′ at l′ ls′
-          → len ≤ len′ → count′ ≤ 64 → Planned n (set (set st len made) (refChainHead (x .block) (x .head)) own) (set lv slot put) x′ depth′ len′ count′ closing′ at l′ ls′
-      built made own slot put x′ depth′ len′ count′ closing′ at l′ ls′ mid a c =
+          → len ≤ len′ → count′ ≤ 64 → own .element ≡ elementAt st (refChainHead (x .block) (x .head)) .element
+          → Planned n (set (set st len made) (refChainHead (x .block) (x .head)) own) (set lv slot put) x′ depth′ len′ count′ closing′ at l′ ls′
+      built made own slot put x′ depth′ len′ count′ closing′ at l′ ls′ mid a c b =
           record {
             mid = mid;
             pos = omega (arith, k .pos);
             long = length-set (set st len made) (refChainHead (x .block) (x .head)) own ∙ length-set st len made ∙ k .long;
             wide = length-set lv slot put ∙ k .wide;
             cap = c;
+            bottom = bottom-same (set st len made) (refChainHead (x .block) (x .head)) own (omega (arith, low, roomy, length-set st len made))
+                (λ q. b ∙ ap (λ (i : ℕ). elementAt st i .element) q ∙ k .bottom) (bottom-other st len made (k .pos) (k .bottom));
           }
 
     -- ---- by the act
@@ -131,10 +153,9 @@ module _ (text : Bytes) (words : List ℕ) where
         record {
           turn = built false l ls k _ _ _ _ _ _ _ _ _ _ _ _
               (opens.skip-step text words st _ lv _ x depth len count _ (k .pos) refl agree false l ls (same-at st len _ _ _ v r refl) (k .fits))
-              (omega arith) (k .cap);
+              (omega arith) (k .cap) refl;
           slot = omega (arith, deep-of false l ls k, k .cap);
-          grows = omega arith;
-          pays = omega arith;
+          pays = (omega arith, omega arith);
         }
 
     plan-add : (l : Level) (ls : List Level) (e : Element) → Made text words role.leaf e → Kept n st lv x depth len count false l ls → Goal false (Turn.Act (A.Add e)) (addTo (leafMeans text words e) l) ls
@@ -146,10 +167,9 @@ module _ (text : Bytes) (words : List ℕ) where
         record {
           turn = built false l ls k _ _ _ _ _ _ _ _ _ _ _ _
               (opens.add-step text words st _ lv _ x depth len count _ (k .pos) refl agree o es ls e (made-at st len _ _ _ v r) m (same-at st len _ _ _ v r refl) (k .fits))
-              (omega arith) (k .cap);
+              (omega arith) (k .cap) refl;
           slot = omega (arith, deep-of false l ls k, k .cap);
-          grows = omega arith;
-          pays = omega arith;
+          pays = (omega arith, omega arith);
         }
 
     plan-begin : (l : Level) (ls : List Level) (e : Element) (op : Opened) (o : Owner)
@@ -164,10 +184,9 @@ module _ (text : Bytes) (words : List ℕ) where
           turn = built false l ls k _ _ _ _ _ _ _ _ _ _ _ _
               (opens.begin-step text words st _ lv _ x depth len count _ (k .pos) refl (λ i a. getD-set-other lv depth i x emptyFrame (λ q. omega (arith, q, a))) l ls o op
               (lead _ (made-at st len _ _ _ v r) (k .pos)) is one rooted (same-at st len _ _ _ v r refl) (getD-set-same lv depth x emptyFrame (omega (arith, d, k .wide))) (k .fits))
-              (omega arith) (omega arith);
+              (omega arith) (omega arith) refl;
           slot = omega (arith, d);
-          grows = omega arith;
-          pays = omega arith;
+          pays = (omega arith, omega arith);
         }
 
     plan-open : (s : State) (e : Element) (op : Opened) → Allowed text words (A.Begin e op) s → count ≡ openCount s → Kept n st lv x depth len count false (s .top) (s .outer)
@@ -203,10 +222,9 @@ module _ (text : Bytes) (words : List ℕ) where
         record {
           turn = built false l ls k _ _ _ _ _ _ _ _ _ _ _ _
               (opens.chain-step text words st _ lv _ x depth len count _ (k .pos) refl agree raw p bs h es ls (own-at st len _ _ _ v r) (but-at st len _ _ _ v r) (k .fits) e (made-at st len _ _ _ v r) m)
-              (omega arith) (omega arith);
+              (omega arith) (omega arith) refl;
           slot = omega (arith, deep-of false l ls k, k .cap);
-          grows = omega arith;
-          pays = omega arith;
+          pays = (omega arith, omega arith);
         }
 
     plan-else : (l : Level) (ls : List Level) → takesElse (ownerOf l) ≡ true → Kept n st lv x depth len count false l ls → Goal false (Turn.Act A.Else) (elseBranch l) ls
@@ -221,10 +239,9 @@ module _ (text : Bytes) (words : List ℕ) where
         record {
           turn = built false l ls k _ _ _ _ _ _ _ _ _ _ _ _
               (opens.else-step text words st _ lv _ x depth len count _ (k .pos) refl agree raw p bs h es ls (own-at st len _ _ _ v r) (but-at st len _ _ _ v r) (k .fits) a)
-              (omega arith) (k .cap);
+              (omega arith) (k .cap) refl;
           slot = omega (arith, deep-of false l ls k, k .cap);
-          grows = omega arith;
-          pays = omega arith;
+          pays = (omega arith, omega arith);
         }
 
     -- ---- a block closes
@@ -258,10 +275,9 @@ module _ (text : Bytes) (words : List ℕ) where
         plan-seals _ _ (k .fits .inner .1 .3) (record {
           turn = built false l ms k _ _ _ _ _ _ _ _ _ _ _ _
               (closes.seal-step text words st _ lv _ x depth len count _ (k .pos) refl agree raw p bs h es o fs ls (own-at st len _ _ _ v r) (but-at st len _ _ _ v r) (k .fits))
-              (omega arith) (k .cap);
+              (omega arith) (k .cap) refl;
           slot = omega (arith, deep-of false l ms k, k .cap);
-          grows = omega arith;
-          pays = omega arith;
+          pays = (omega arith, omega arith);
         })
     plan-close g (level (wrapper p w) es) (level o fs ∷ ls) end pro line a k =
         let l : Level = level (wrapper p w) es in
@@ -271,10 +287,9 @@ module _ (text : Bytes) (words : List ℕ) where
         plan-seals _ _ (k .fits .inner .1 .3) (record {
           turn = built false l ms k _ _ _ _ _ _ _ _ _ _ _ _
               (closes.wrap-step text words st _ lv _ x depth len count _ (k .pos) refl agree p w es o fs ls (own-at st len _ _ _ v r) (but-at st len _ _ _ v r) (k .fits))
-              (omega arith) (k .cap);
+              (omega arith) (k .cap) refl;
           slot = omega (arith, deep-of false l ms k, k .cap);
-          grows = omega arith;
-          pays = omega arith;
+          pays = (omega arith, omega arith);
         })
     plan-close g (level (inElse p h b bs) es) (level o fs ∷ ls) end pro line a k =
         let l : Level = level (inElse p h b bs) es in
@@ -284,10 +299,9 @@ module _ (text : Bytes) (words : List ℕ) where
         plan-shuts _ _ (k .fits .inner .1 .3) (record {
           turn = built false l ms k _ _ _ _ _ _ _ _ _ _ _ _
               (closes.shut-step text words st _ lv _ x depth len count _ (k .pos) refl agree p h b bs es o fs ls (same-at st len _ _ _ v r refl) (k .fits))
-              (omega arith) (k .cap);
+              (omega arith) (k .cap) refl;
           slot = omega (arith, deep-of false l ms k, k .cap);
-          grows = omega arith;
-          pays = omega arith;
+          pays = (omega arith, omega arith);
         })
 
     plan-revert : (l : Level) (ls : List Level) → 0 < x .head → Kept n st lv x depth len count true l ls → Goal true Turn.Revert l ls
@@ -298,10 +312,9 @@ module _ (text : Bytes) (words : List ℕ) where
         record {
           turn = built true l ls k _ _ _ _ _ _ _ _ _ _ _ _
               (closes.revert-step text words st _ lv _ x depth len count _ (k .pos) refl agree l ls a (own-at st len _ _ _ v r) (but-at st len _ _ _ v r) (k .fits))
-              (omega arith) (omega (arith, k .cap));
+              (omega arith) (omega (arith, k .cap)) refl;
           slot = omega (arith, deep-of true l ls k, k .cap);
-          grows = omega arith;
-          pays = omega (arith, deep-of true l ls k, k .fits .deep);
+          pays = (omega (arith, deep-of true l ls k, k .fits .deep), refl);
         }
 
     plan-set : (l : Level) (ls : List Level) → x .head ≡ 0 → Kept n st lv x depth len count true l ls → Goal true Turn.Set l ls
@@ -312,10 +325,9 @@ module _ (text : Bytes) (words : List ℕ) where
         record {
           turn = built true l ls k _ _ _ _ _ _ _ _ _ _ _ _
               (closes.set-step text words st _ lv _ x depth len count _ (k .pos) refl agree l ls a (own-at st len _ _ _ v r) (but-at st len _ _ _ v r) (k .fits))
-              (omega arith) (omega (arith, k .cap));
+              (omega arith) (omega (arith, k .cap)) refl;
           slot = omega (arith, deep-of true l ls k, k .cap);
-          grows = omega arith;
-          pays = omega (arith, deep-of true l ls k, k .fits .deep);
+          pays = (omega (arith, deep-of true l ls k, k .fits .deep), refl);
         }
 
     -- ---- in all
