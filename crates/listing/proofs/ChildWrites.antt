@@ -53,7 +53,7 @@ unfolding paramForm writeForm
 keys-join noKeys rest = refl
 keys-join (key k v ks) rest = simp (keys-join ks rest, append-assoc)
 
-call-join : (c : Call) (rest : Forms) → writeForms (callForms c rest) ≡ writeForms (callForms c nil) ++ writeForms rest
+pub call-join : (c : Call) (rest : Forms) → writeForms (callForms c rest) ≡ writeForms (callForms c nil) ++ writeForms rest
 unfolding paramForm writeForm
 call-join (call n ps ks) rest =
     let a = params-join ps (keyForms ks rest) in

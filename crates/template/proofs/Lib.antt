@@ -29,3 +29,4 @@ pub mod CloseSteps
 pub mod Trims
 pub mod Turns
 pub mod Ready
+pub mod ElementWrites

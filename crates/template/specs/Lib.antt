@@ -24,3 +24,4 @@ pub mod Asked
 pub mod TagRead
 pub mod Links
 pub mod Turn
+pub mod Opening

@@ -1,0 +1,211 @@
+-- The bytes of an element, piece by piece as the writers store them. Assumes nothing.
+use Prim.Native.Nat.{ℕ, _<_, _≤_}
+use native.Mathlib.Omega.{arith}
+use mathlib.Core.Path.{_≡_, refl, sym, ap, subst, _∙_}
+use mathlib.Core.List.{List, [], _∷_, _++_, append-nil, append-assoc}
+use mathlib.Core.Bool.{Bool, true, false}
+use mathlib.Core.Option.{Option, none, some}
+use lib.ListN.{length, take}
+use native.Mathlib.Nat.{sub-zero}
+use borrow.Author.Tests.{eq-eqb, ne-eqb}
+use Rattle.support.specs.Bytes.{Bytes, ascii, if, part}
+use Rattle.support.specs.TextRules.{trailingBlanks, commentCompactText, commentText}
+use Rattle.support.specs.Position.{Place}
+use Rattle.support.specs.declared.position.Place as code
+use Rattle.listing.specs.Quoted.{digits, decimal, quoted}
+use Rattle.listing.specs.Form.{Word, Field, spell, writeField, writeFields, writeHead, Forms, nil, cons, openForm, line, writeForm, writeForms}
+use Rattle.listing.specs.Tree.{Item, Wrap, decorBlock, partialBlock, Head, head}
+use Rattle.listing.specs.Tree as T
+use Rattle.listing.specs.Listing.{bit, placeField, indentField, callForms, blockParamForms, itemForm, wrapForm, blockForm}
+use Rattle.listing.specs.Children.{decoratorChildren, helperChildren}
+use Rattle.listing.specs.Written.{largest, Written}
+use Rattle.listing.proofs.Writes.{written-none, written-then, written-length}
+use Rattle.listing.proofs.PathWrites.{three}
+use Rattle.listing.proofs.ChildWrites.{call-join}
+use Rattle.template.specs.Step.{anyBlanks}
+use Rattle.template.specs.Element.{placeMeans, linkOf, rawMeans, commentMeans, callAt, indentMeans, itemMeans, headMeans, headAt, wrapMeans, decorAt, partialAt, Role, leaf, helper, wrapper, nothing, roleOf, RawGood, Sound}
+use Rattle.template.specs.Opening.{blockOpening, wrapOpening, decoratedBytes, openingBy, opening}
+use Rattle.template.specs.declared.element.RawString.{RawString}
+use Rattle.template.specs.declared.element.Comment.{Comment}
+use Rattle.template.specs.declared.element.HelperTemplate.{HelperTemplate}
+use Rattle.template.specs.declared.element.DecoratorTemplate.{DecoratorTemplate}
+use Rattle.template.specs.declared.element.TemplateElement.{TemplateElement}
+use Rattle.template.specs.declared.element.TemplateElement.the-variants as E
+use Rattle.template.specs.declared.element.Element.{Element}
+
+-- ---- fields
+
+empty : (t : Bytes) → length t ≡ 0 → t ≡ []
+empty [] h = refl
+empty (c ∷ t) h = absurd (omega arith)
+
+-- the indent, from its blanks
+indented : (text : Bytes) (d : DecoratorTemplate) {s t : Bytes} → d .indent ≡ true → s ≡ part text 0 (d .start) → t ≡ trailingBlanks s
+    → indentMeans text [] d ≡ anyBlanks t
+indented text d e f g = rw e (ap (λ n. anyBlanks (trailingBlanks (take n text))) (sym (sub-zero (d .start))) ∙ ap (λ u. anyBlanks (trailingBlanks u)) (sym f) ∙ ap anyBlanks (sym g))
+
+module _ {l m : Bytes} {at r : ℕ} where
+  pub place-none : (p : code.Place) → p .line ≡ 0 → Written (ascii "-") l at m r → Written (writeField (placeField (placeMeans p))) l at m r
+  unfolding writeField
+  place-none p e w = rw (eq-eqb (p .line) 0 e) w
+
+  pub place-some : (p : code.Place) → (p .line ≡ 0 → ⊥) → Written (decimal (p .line) ++ (ascii ":" ++ decimal (p .column))) l at m r
+      → Written (writeField (placeField (placeMeans p))) l at m r
+  unfolding writeField
+  place-some p e w = rw (ne-eqb (p .line) 0 e) w
+
+  pub bit-set : {b : Bool} → b ≡ true → Written (ascii " 1") l at m r → Written (ascii " " ++ writeField (bit b)) l at m r
+  unfolding writeField decimal digits
+  bit-set e w = rw e w
+
+  pub bit-clear : {b : Bool} → b ≡ false → Written (ascii " 0") l at m r → Written (ascii " " ++ writeField (bit b)) l at m r
+  unfolding writeField decimal digits
+  bit-clear e w = rw e w
+
+  module _ (text : Bytes) (c : Comment) where
+    pub comment-compact : {s t : Bytes} → c .compact ≡ true → s ≡ part text (c .start) (c .end) → t ≡ commentCompactText s
+        → Written (quoted t) l at m r → Written (quoted (commentMeans text [] c)) l at m r
+    comment-compact e f g w = rw (e, ← f, ← g) w
+
+    pub comment-plain : {s t : Bytes} → c .compact ≡ false → s ≡ part text (c .start) (c .end) → t ≡ commentText s
+        → Written (quoted t) l at m r → Written (quoted (commentMeans text [] c)) l at m r
+    comment-plain e f g w = rw (e, ← f, ← g) w
+
+  module _ (text : Bytes) (d : DecoratorTemplate) where
+    pub indent-off : d .indent ≡ false → Written (ascii " -") l at m r → Written (ascii " " ++ writeField (indentField (indentMeans text [] d))) l at m r
+    unfolding writeField
+    indent-off e w = rw e w
+
+    module _ {s t : Bytes} (e : d .indent ≡ true) (f : s ≡ part text 0 (d .start)) (g : t ≡ trailingBlanks s) where
+      pub indent-none : length t ≡ 0 → Written (ascii " -") l at m r → Written (ascii " " ++ writeField (indentField (indentMeans text [] d))) l at m r
+      unfolding writeField
+      indent-none h w = rw (indented text d e f g, empty t h) w
+
+      pub indent-some : (length t ≡ 0 → ⊥) → Written (ascii " " ++ quoted t) l at m r
+          → Written (ascii " " ++ writeField (indentField (indentMeans text [] d))) l at m r
+      unfolding writeField
+      indent-some h w = rw (indented text d e f g) (full t h w)
+        where
+          full : (u : Bytes) → (length u ≡ 0 → ⊥) → Written (ascii " " ++ quoted u) l at m r → Written (ascii " " ++ writeField (indentField (anyBlanks u))) l at m r
+          full [] k w = absurd (k refl)
+          full (c ∷ u) k w = w
+
+-- ---- the bytes of a form
+
+-- `[word P` and what follows
+head-one : (w : Word) (f : Field) (x : Bytes) → writeHead w (f ∷ []) ++ x ≡ (ascii "[" ++ (spell w ++ ascii " ")) ++ (writeField f ++ x)
+unfolding writeHead writeFields
+head-one w f x = simp (append-nil, append-assoc)
+
+-- `[word P a b` and what follows
+head-three : (w : Word) (f g h : Field) (x : Bytes)
+    → writeHead w (f ∷ g ∷ h ∷ []) ++ x ≡ (ascii "[" ++ (spell w ++ ascii " ")) ++ (writeField f ++ ((ascii " " ++ writeField g) ++ ((ascii " " ++ writeField h) ++ x)))
+unfolding writeHead writeFields
+head-three w f g h x = simp (append-nil, append-assoc)
+
+pub text-bytes : (f : Field) (t : Bytes)
+    → writeForm (itemForm f (T.text t)) ≡ ascii "[text " ++ (writeField f ++ (ascii " " ++ (quoted t ++ ascii "]\n")))
+unfolding itemForm writeForm writeHead writeFields writeField
+text-bytes f t = simp (append-nil, append-assoc)
+
+pub comment-bytes : (f : Field) (t : Bytes)
+    → writeForm (itemForm f (T.comment t)) ≡ ascii "[comment " ++ (writeField f ++ (ascii " " ++ (quoted t ++ ascii "]\n")))
+unfolding itemForm writeForm writeHead writeFields writeField
+comment-bytes f t = simp (append-nil, append-assoc)
+
+-- ---- an element told by its case
+
+module _ (text : Bytes) (words : List ℕ) (e : Element) {x : TemplateElement} (told : e .element ≡ x) {l m : Bytes} {at r : ℕ} where
+  -- it is written by its case
+  told-written : Written (openingBy text words (roleOf x) (placeMeans (e .place)) (e .chain) x) l at m r → Written (opening text words e) l at m r
+  told-written w = subst (λ y. Written (openingBy text words (roleOf y) (placeMeans (e .place)) (e .chain) y) l at m r) (sym told) w
+
+regroup : (a b c n y x : Bytes) → a ++ (b ++ (c ++ (n ++ (y ++ x)))) ≡ (a ++ (b ++ (c ++ (n ++ y)))) ++ x
+regroup a b c n y x = simp append-assoc
+
+decorated-bytes : (text : Bytes) (words : List ℕ) (w : Word) (p : Option Place) (d : DecoratorTemplate) (x : Bytes)
+    → writeHead w (placeField p ∷ bit (d .«indent_before_write») ∷ indentField (indentMeans text words d) ∷ []) ++ (ascii "\n" ++ (writeForms (callForms (callAt text words (d .from) (d .limit)) nil) ++ x))
+    ≡ (ascii "[" ++ (spell w ++ ascii " ")) ++ (decoratedBytes text words p d ++ x)
+unfolding decoratedBytes decoratorChildren
+decorated-bytes text words w p d x =
+    let i = bit (d .«indent_before_write») in
+    let f = indentField (indentMeans text words d) in
+    head-three w (placeField p) i f _
+    ∙ ap ((ascii "[" ++ (spell w ++ ascii " ")) ++_)
+    (regroup (writeField (placeField p)) (ascii " " ++ writeField i) (ascii " " ++ writeField f) (ascii "\n") (writeForms (callForms (callAt text words (d .from) (d .limit)) nil)) x)
+
+pub nothing-written : (text : Bytes) (words : List ℕ) (e : Element) {l : Bytes} {at : ℕ} → e .element ≡ E.Empty → at ≤ largest
+    → Written (opening text words e) l at l at
+unfolding openingBy
+nothing-written text words e {l} {at} t h = told-written text words e t (written-none l at h)
+
+module _ (text : Bytes) (words : List ℕ) (e : Element) {l m : Bytes} {at r : ℕ} where
+  pub text-written : {o : RawString} → e .element ≡ E.RawString o
+      → Written (writeForm (itemForm (placeField (placeMeans (e .place))) (T.text (rawMeans text words o)))) l at m r
+      → Written (opening text words e) l at m r
+  unfolding openingBy itemMeans
+  text-written t w = told-written text words e t w
+
+  pub comment-written : {c : Comment} → e .element ≡ E.Comment c
+      → Written (writeForm (itemForm (placeField (placeMeans (e .place))) (T.comment (commentMeans text words c)))) l at m r
+      → Written (opening text words e) l at m r
+  unfolding openingBy itemMeans
+  comment-written t w = told-written text words e t w
+
+  pub block-written : {h : HelperTemplate} → e .element ≡ E.HelperBlock h
+      → Written (blockOpening (placeField (placeMeans (e .place))) (e .chain) (headAt text words h)) l at m r
+      → Written (opening text words e) l at m r
+  unfolding openingBy headMeans
+  block-written t w = told-written text words e t w
+
+module _ (text : Bytes) (words : List ℕ) (e : Element) {l m n : Bytes} {at p : ℕ} (g : length l ≤ largest) where
+  -- an expression, from its word and what follows
+  module _ {r : ℕ} {h : HelperTemplate} (w : Written (writeField (placeField (placeMeans (e .place))) ++ (ascii "\n" ++ (writeForms (helperChildren text words (linkOf (h .from) (h .limit))) ++ ascii "]\n"))) m p n r) where
+    pub expr-written : e .element ≡ E.Expression h → Written (ascii "[expr ") l at m p → Written (opening text words e) l at n r
+    unfolding openingBy itemMeans itemForm writeForm helperChildren
+    expr-written t a = told-written text words e t (rw (head-one Word.expr (placeField (placeMeans (e .place))) _) (written-then g a w))
+
+    pub html-written : e .element ≡ E.HtmlExpression h → Written (ascii "[html ") l at m p → Written (opening text words e) l at n r
+    unfolding openingBy itemMeans itemForm writeForm helperChildren
+    html-written t a = told-written text words e t (rw (head-one Word.html (placeField (placeMeans (e .place))) _) (written-then g a w))
+
+  -- a decorator or a partial, from its word, what follows and its end
+  module _ {k : Bytes} {q s : ℕ} {d : DecoratorTemplate} (w : Written (decoratedBytes text words (placeMeans (e .place)) d) m p n q) where
+    pub decor-written : e .element ≡ E.DecoratorExpression d → Written (ascii "[decor ") l at m p → Written (ascii "]\n") n q k s
+        → Written (opening text words e) l at k s
+    unfolding openingBy itemMeans itemForm writeForm
+    decor-written t a b = told-written text words e t (rw (decorated-bytes text words Word.decor (placeMeans (e .place)) d (ascii "]\n")) (three g a w b))
+
+    pub partial-written : e .element ≡ E.PartialExpression d → Written (ascii "[partial ") l at m p → Written (ascii "]\n") n q k s
+        → Written (opening text words e) l at k s
+    unfolding openingBy itemMeans itemForm writeForm
+    partial-written t a b = told-written text words e t (rw (decorated-bytes text words Word.partial (placeMeans (e .place)) d (ascii "]\n")) (three g a w b))
+
+    pub decor-block-written : e .element ≡ E.DecoratorBlock d → Written (ascii "[decor-block ") l at m p → Written (ascii "[body\n") n q k s
+        → Written (opening text words e) l at k s
+    unfolding openingBy wrapMeans wrapOpening
+    decor-block-written t a b = told-written text words e t (rw (decorated-bytes text words Word.decorBlock (placeMeans (e .place)) d (ascii "[body\n")) (three g a w b))
+
+    pub partial-block-written : e .element ≡ E.PartialBlock d → Written (ascii "[partial-block ") l at m p → Written (ascii "[body\n") n q k s
+        → Written (opening text words e) l at k s
+    unfolding openingBy wrapMeans wrapOpening
+    partial-block-written t a b = told-written text words e t (rw (decorated-bytes text words Word.partialBlock (placeMeans (e .place)) d (ascii "[body\n")) (three g a w b))
+
+pub block-bytes : (text : Bytes) (words : List ℕ) (f : Field) (c : Bool) (h : HelperTemplate)
+    → blockOpening f c (headAt text words h)
+    ≡ ascii "[block " ++ (writeField f ++ ((ascii " " ++ writeField (bit c)) ++ ((ascii " " ++ writeField (bit (h .«indent_before_write»))) ++ (ascii "\n" ++ (writeForms (helperChildren text words (linkOf (h .from) (h .limit))) ++ ascii "[body\n")))))
+unfolding blockOpening helperChildren
+block-bytes text words f c h = head-three Word.block f (bit c) (bit (h .«indent_before_write»)) _
+
+-- ---- a run of writers
+
+pub four : {l x y z u m n k i : Bytes} {at p q r s : ℕ} → length l ≤ largest → Written x l at m p → Written y m p n q → Written z n q k r → Written u k r i s
+    → Written (x ++ (y ++ (z ++ u))) l at i s
+four h a b c d = written-then h a (three (omega (arith, written-length a)) b c d)
+
+pub bytes-are : {x y l m : Bytes} {at r : ℕ} → x ≡ y → Written y l at m r → Written x l at m r
+bytes-are {l = l} {m = m} {at = at} {r = r} e w = subst (λ z. Written z l at m r) (sym e) w
+
+-- a text is as the walk makes it
+pub raw-sound : (text : Bytes) (words : List ℕ) (e : Element) {o : RawString} → e .element ≡ E.RawString o → Sound text words (e .element) → RawGood text words o
+raw-sound text words e t s = subst (λ x. Sound text words x) t s
