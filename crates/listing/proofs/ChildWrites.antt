@@ -5,7 +5,8 @@ use mathlib.Core.Path.{_≡_, refl, sym, ap, subst, _∙_}
 use mathlib.Core.List.{List, [], _∷_, _++_, append-nil, append-assoc}
 use lib.ListN.{length}
 use Rattle.support.specs.Bytes.{Bytes, ascii}
-use Rattle.expression.specs.Expression.{Call, call, Keys, noKeys, key, Expression, single, pair}
+use Rattle.expression.specs.Expression.{Call, call, Keys, noKeys, key, Expression, noBlockParam, single, pair}
+use Rattle.expression.specs.Expression as Block
 use Rattle.expression.specs.Read.{Fault, Read, failed}
 use Rattle.expression.specs.Answers.{blockMeans, callMeans, callOr, expressionMeans, ExpressionIs}
 use Rattle.expression.specs.declared.parameter.BlockParam.{BlockParam}
@@ -60,6 +61,12 @@ call-join (call n ps ks) rest =
     let b = params-join ps (keyForms ks nil) in
     let d = keys-join ks rest in
     simp (a, b, d, append-assoc)
+
+pub block-join : (b : Block.BlockParam) (rest : Forms) → writeForms (blockParamForms b rest) ≡ writeForms (blockParamForms b nil) ++ writeForms rest
+unfolding writeForm
+block-join noBlockParam rest = refl
+block-join (single a) rest = simp (append-nil, append-assoc)
+block-join (pair a b) rest = simp (append-nil, append-assoc)
 
 module _ (text : Bytes) (words : List ℕ) (s : Subexpression) {l m : Bytes} {at r : ℕ} where
   pub decorator-empty : {e : Fault} → expressionAt text words s ≡ failed e → Written (ascii "[name \"\"]\n") l at m r

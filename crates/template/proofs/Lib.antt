@@ -30,3 +30,5 @@ pub mod Trims
 pub mod Turns
 pub mod Ready
 pub mod ElementWrites
+pub mod BodyAt
+pub mod Lister

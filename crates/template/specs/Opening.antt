@@ -1,6 +1,6 @@
 -- What is written of a stored element before its body: all of an element that has none.
 use mathlib.Core.List.{List, [], _∷_, _++_}
-use mathlib.Core.Bool.{Bool}
+use mathlib.Core.Bool.{Bool, true, false}
 use mathlib.Core.Option.{Option}
 use Prim.Native.Nat.{ℕ}
 use Rattle.support.specs.Bytes.{Bytes, ascii}
@@ -39,3 +39,10 @@ module _ (text : Bytes) (words : List ℕ) where
 
   abbrev pub opening : Element → Bytes
   opening e = openingBy (roleOf (e .element)) (placeMeans (e .place)) (e .chain) (e .element)
+
+-- a body follows
+abbrev pub hasBody : Role → Bool
+hasBody leaf = false
+hasBody helper = true
+hasBody wrapper = true
+hasBody nothing = false

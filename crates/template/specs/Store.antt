@@ -64,3 +64,8 @@ module _ (text : Bytes) (words : List ℕ) where
     pub long : length st ≡ 8193
     pub few : len ≤ 8193
     pub chain : Chain st 0 first last 1 len b
+
+  -- the store holds some body
+  pub record Stored (st : List Element) (first : ℕ) : Type 0 where
+    pub body : Body
+    pub holds : Holds st first body

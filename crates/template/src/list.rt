@@ -19,15 +19,31 @@ use support::str::hbs_comment_compact_text;
 use support::str::hbs_comment_text;
 ghost use mathlib.Core.Path.{_≡_};
 ghost use mathlib.Core.List.{[], _++_};
+ghost use mathlib.Core.Bool.{_&&_, not};
 ghost use Rattle.support.specs.Bytes.{ascii};
 ghost use Rattle.listing.specs.Quoted.{quoted};
 ghost use Rattle.listing.specs.Form.{writeField, writeForm, writeForms};
 ghost use Rattle.listing.specs.Tree as Tree;
-ghost use Rattle.listing.specs.Listing.{bit, placeField, indentField, itemForm};
+ghost use Rattle.listing.specs.Tree.{Body};
+ghost use Rattle.listing.specs.Listing.{bit, placeField, indentField, itemForm, write};
 ghost use Rattle.listing.specs.Children.{decoratorChildren, helperChildren};
 ghost use Rattle.listing.specs.Written.{Written};
-ghost use Rattle.template.specs.Element.{placeMeans, linkOf, rawMeans, commentMeans, indentMeans, headAt, Good, RawGood, Sound};
-ghost use Rattle.template.specs.Opening.{blockOpening, decoratedBytes, opening};
+ghost use Rattle.template.specs.Element.{placeMeans, linkOf, rawMeans, commentMeans, indentMeans, headAt, roleOf, Good, RawGood, Sound};
+ghost use Rattle.template.specs.Store.{Holds, Stored};
+ghost use Rattle.template.specs.Opening.{blockOpening, decoratedBytes, opening, hasBody};
+
+// A block of which the body, or the else, is being listed.
+pub struct Waiting {
+    pub block: usize,
+    pub inverse: bool,
+}
+
+impl Waiting {
+    pub const EMPTY: Waiting = Waiting {
+        block: 0,
+        inverse: false,
+    };
+}
 
 fn link_of(from: usize, limit: usize) -> Subexpression
     ensures { λ r. ⌜ r ≡ linkOf from limit ⌝ }
@@ -216,6 +232,87 @@ pub(crate) fn write_element(
             let p = put_bytes(out, at, b"[partial-block ");
             let q = write_decorated(out, p, text, words, place, d);
             put_bytes(out, q, b"[body\n")
+        }
+    }
+}
+
+fn has_body(x: TemplateElement) -> bool
+    ensures { λ r. ⌜ r ≡ hasBody (roleOf x) ⌝ }
+{
+    match x {
+        TemplateElement::Empty => false,
+        TemplateElement::RawString(_) => false,
+        TemplateElement::Comment(_) => false,
+        TemplateElement::Expression(_) => false,
+        TemplateElement::HtmlExpression(_) => false,
+        TemplateElement::HelperBlock(_) => true,
+        TemplateElement::DecoratorExpression(_) => false,
+        TemplateElement::PartialExpression(_) => false,
+        TemplateElement::DecoratorBlock(_) => true,
+        TemplateElement::PartialBlock(_) => true,
+    }
+}
+
+// The else is still to be listed.
+fn has_else(e: Element, w: Waiting) -> bool
+    ensures { λ r. ⌜ r ≡ (e .inverted && not (w .inverse)) ⌝ }
+{
+    if e.inverted {
+        return !w.inverse;
+    }
+    false
+}
+
+// Goes from element to element, and back to the block that waits where a body ends.
+fn write_all(
+    elements: [Element; Element::LIMIT],
+    first: usize,
+    text: &[u8],
+    words: &[u32],
+    out: &mut [u8],
+) -> usize
+    requires { ⌜ Good (now text) (now words) × Stored (now text) (now words) elements first ⌝ }
+    ensures { λ r. ⌜ ((b : Body) → Holds (now (text .entry)) (now (words .entry)) elements first b → Written (write b) (now (out .entry)) 0 (now (out .exit)) r) ⌝ }
+{
+    let mut waiting = [Waiting::EMPTY; Element::LIMIT];
+    let mut p = put_bytes(out, 0, b"[template\n");
+    let mut at = first;
+    let mut depth: usize = 0;
+    loop {
+        if at == 0 {
+            if depth == 0 {
+                return put_bytes(out, p, b"]\n");
+            }
+            depth -= 1;
+            let w = waiting[depth];
+            let block = w.block;
+            let e = elements[block];
+            if has_else(e, w) {
+                p = put_bytes(out, p, b"]\n[else\n");
+                waiting[depth] = Waiting {
+                    block: block,
+                    inverse: true,
+                };
+                depth += 1;
+                at = e.inverse;
+            } else {
+                p = put_bytes(out, p, b"]\n]\n");
+                at = e.next;
+            }
+        } else {
+            let e = elements[at];
+            let x = e.element;
+            p = write_element(out, p, text, words, e);
+            if has_body(x) {
+                waiting[depth] = Waiting {
+                    block: at,
+                    inverse: false,
+                };
+                depth += 1;
+                at = e.template;
+            } else {
+                at = e.next;
+            }
         }
     }
 }
