@@ -33,9 +33,9 @@ module _ (input : Bytes) (words : List ℕ) where
   bodyAt (suc f) st l = elim (eqb l 0) [
     | true ↦ end
     | false ↦ then
-      (elemOf (roleOf (elementAt st l .element)) (elementAt st l) (bodyAt f st (elementAt st l .template))
-      (elseOf (elementAt st l .inverted) (bodyAt f st (elementAt st l .inverse))))
-      (bodyAt f st (elementAt st l .next))
+        (elemOf (roleOf (elementAt st l .element)) (elementAt st l) (bodyAt f st (elementAt st l .template))
+        (elseOf (elementAt st l .inverted) (bodyAt f st (elementAt st l .inverse))))
+        (bodyAt f st (elementAt st l .next))
   ]
 
   no-link : (f : ℕ) (st : List Element) (l : ℕ) → l ≡ 0 → bodyAt f st l ≡ end

@@ -98,5 +98,7 @@ module _ (text : Bytes) (words : List ℕ) (s : Span) where
   as-it-is (failed e) = refl
 
   pub tag-own : (r : TagRead) → (s .tag ≡ 10 → ⊥) → OwnReadIs text words (s .number + 1) (s .end) false r → TagReadIs text words s r
-  tag-own r n h = record { means = λ k e. other-own k n e (λ o. tagReadMeans text words o (s .end) (s .number + 1) r)
-      (subst (λ o. tagReadMeans text words o (s .end) (s .number + 1) r) (as-it-is (readOwn text s (spansFrom words (s .number + 1)))) (h .means)) }
+  tag-own r n h = record {
+    means = λ k e. other-own k n e (λ o. tagReadMeans text words o (s .end) (s .number + 1) r)
+        (subst (λ o. tagReadMeans text words o (s .end) (s .number + 1) r) (as-it-is (readOwn text s (spansFrom words (s .number + 1)))) (h .means));
+  }

@@ -1,11 +1,10 @@
-// types
-pub mod compile;
-pub mod element;
-pub mod frame;
-pub mod raw;
+// The walk over the spans and `compile2`, after handlebars' src/template.rs.
+mod compile;
+mod element;
+mod frame;
 mod list;
 mod raw;
-pub mod reason;
-pub mod tag;
-pub mod turn;
-pub mod visit;
+mod reason;
+mod tag;
+mod turn;
+mod visit;
