@@ -32,3 +32,10 @@ pub mod Ready
 pub mod ElementWrites
 pub mod BodyAt
 pub mod Lister
+pub mod GapLaws
+pub mod LastText
+pub mod VisitLaws
+pub mod TagSteps
+pub mod StepParts
+pub mod SpanVisits
+pub mod SpanCases

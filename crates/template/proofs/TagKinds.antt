@@ -64,16 +64,23 @@ module _ (Q : Kind → Type 0) (t : ℕ) where
   unfolding kinds
   kind-late l q = either At t 19 l (q commentCompact) (λ h. either At t 20 h (q comment) (λ h. subst Q (sym (kind-skipped t h)) (q skipped)))
 
+  -- up to the else tags
+  pub kind-upto : t < 11 → ((k : Plain) → Q (plain k)) → ((k : BlockKind) → Q (tagged (blockStart k))) → Q (tagged invertTag) → Q (tagged invertChainTag) → Q (kindOf t)
+  kind-upto u p s a b = go (ltb t 5) refl (ltb t 9) refl
+    where
+      go : (x : Bool) → ltb t 5 ≡ x → (y : Bool) → ltb t 9 ≡ y → Q (kindOf t)
+      go true h y i = kind-low (ltb-true t 5 h) p
+      go false h true i = let l = ltb-false t 5 h in let m = ltb-true t 9 i in kind-start l (omega arith) s
+      go false h false i = kind-else (ltb-false t 9 i) (omega arith) a b
+
   -- ahead of the end tags
   pub kind-before : t < 15 → ((k : Plain) → Q (plain k)) → ((k : BlockKind) → Q (tagged (blockStart k))) → Q (tagged invertTag) → Q (tagged invertChainTag)
       → Q (tagged expression) → Q (tagged htmlExpression) → Q (tagged decoratorExpression) → Q (tagged partialExpression) → Q (kindOf t)
-  kind-before u p s a b c d e f = go (ltb t 5) refl (ltb t 9) refl (ltb t 11) refl
+  kind-before u p s a b c d e f = go (ltb t 11) refl
     where
-      go : (x : Bool) → ltb t 5 ≡ x → (y : Bool) → ltb t 9 ≡ y → (z : Bool) → ltb t 11 ≡ z → Q (kindOf t)
-      go true h y i z j = kind-low (ltb-true t 5 h) p
-      go false h true i z j = let l = ltb-false t 5 h in let m = ltb-true t 9 i in kind-start l (omega arith) s
-      go false h false i true j = let l = ltb-false t 9 i in let m = ltb-true t 11 j in kind-else l (omega arith) a b
-      go false h false i false j = let l = ltb-false t 11 j in kind-leaf l (omega arith) c d e f
+      go : (x : Bool) → ltb t 11 ≡ x → Q (kindOf t)
+      go true h = kind-upto (ltb-true t 11 h) p s a b
+      go false h = kind-leaf (ltb-false t 11 h) (omega arith) c d e f
 
   -- behind the else tags
   pub kind-behind : 11 ≤ t → Q (tagged expression) → Q (tagged htmlExpression) → Q (tagged decoratorExpression) → Q (tagged partialExpression)
@@ -84,6 +91,19 @@ module _ (Q : Kind → Type 0) (t : ℕ) where
       go true h y i = let m = ltb-true t 15 h in kind-leaf l (omega arith) a b c d
       go false h true i = let m = ltb-true t 19 i in kind-end (ltb-false t 15 h) (omega arith) e
       go false h false i = kind-late (ltb-false t 19 i) p
+
+-- ---- what holds of a tag with an expression
+
+abbrev pub Holds : (Tag → Type 0) → Kind → Type 0
+Holds P (plain k) = Unit {0}
+Holds P (tagged k) = P k
+
+pub tag-holds : (P : Tag → Type 0) (t : ℕ) → Holds P (kindOf t) → (k : Tag) → kindOf t ≡ tagged k → P k
+tag-holds P t h k e = subst (Holds P) e h
+
+-- the tag n alone
+pub holds-at : (P : Tag → Type 0) (t n : ℕ) (j : Tag) → kindOf n ≡ tagged j → t ≡ n → P j → Holds P (kindOf t)
+holds-at P t n j e f h = subst (λ z. Holds P (kindOf z)) (sym f) (subst (Holds P) (sym e) h)
 
 -- tag 10 alone begins an else-if
 
@@ -121,3 +141,19 @@ begins-chain t = go (ltb t 9) refl
 
 pub chain-tag : (t : ℕ) → kindOf t ≡ tagged invertChainTag → t ≡ 10
 chain-tag t e = eqb-true t 10 (sym (begins-chain t) ∙ ap beginsChain e)
+
+-- tags 5 to 18 have an expression
+pub some-tag : (t : ℕ) → 5 ≤ t → t ≤ 18 → (k : Tag) × (kindOf t ≡ tagged k)
+some-tag t l u = go (ltb t 9) refl (ltb t 11) refl
+  where
+    Some : Kind → Type 0
+    Some z = (k : Tag) × (z ≡ tagged k)
+
+    go : (a : Bool) → ltb t 9 ≡ a → (b : Bool) → ltb t 11 ≡ b → Some (kindOf t)
+    go true h b i = let m = ltb-true t 9 h in kind-start Some t l (omega arith) (λ k. (blockStart k, refl))
+    go false h true i = let m = ltb-true t 11 i in kind-else Some t (ltb-false t 9 h) (omega arith) (invertTag, refl) (invertChainTag, refl)
+    go false h false i = late (ltb t 15) refl (ltb-false t 11 i)
+      where
+        late : (a : Bool) → ltb t 15 ≡ a → 11 ≤ t → Some (kindOf t)
+        late true h l = let m = ltb-true t 15 h in kind-leaf Some t l (omega arith) (expression, refl) (htmlExpression, refl) (decoratorExpression, refl) (partialExpression, refl)
+        late false h l = kind-end Some t (ltb-false t 15 h) u (λ k. (blockEnd k, refl))

@@ -25,3 +25,4 @@ pub mod TagRead
 pub mod Links
 pub mod Turn
 pub mod Opening
+pub mod Visiting

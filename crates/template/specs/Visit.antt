@@ -99,6 +99,8 @@ pub record Tells (text : Bytes) (v : View) (st : State) : Type 0 where
   pub name : asNameMeans text (v .name) ≡ openedName (owner st)
   pub count : v .count ≡ openCount st
   pub here : HereIs text (v .here) (prevEnd st)
+  -- with no body around it the innermost one is the root's
+  pub outermost : st .outer ≡ [] → owner st ≡ S.root
 
 -- ---- steps
 

@@ -11,12 +11,40 @@ use crate::frame::Marks;
 use crate::frame::Opened;
 use crate::frame::Stage;
 use crate::reason::Refusal;
+use crate::reason::bad_escapes;
+use crate::reason::decorator_name_differs;
+use crate::reason::fault_number;
+use crate::reason::fault_place;
+use crate::reason::helper_name_differs;
+use crate::reason::kept_gap;
+use crate::reason::nests;
+use crate::reason::too_many_open;
 use crate::tag::TagExpression;
 use crate::tag::TagRead;
+use crate::tag::read_tag;
 use expression::parameter::AsName;
 use json_path::span::Next;
 use json_path::span::Span;
+use json_path::span::next_span;
+use json_path::span::span_count;
+use support::bytes::part;
 use support::position::Place;
+use support::position::line_col;
+use support::str::ends_with_empty_line;
+use support::str::starts_with_empty_line;
+ghost use mathlib.Core.Path.{_≡_};
+ghost use mathlib.Core.List.{List};
+ghost use mathlib.Core.Bool.{Bool, true, false, _&&_, _||_, not};
+ghost use Prim.Native.Nat.{ℕ, _+_, _≤_, _<_};
+ghost use Rattle.support.specs.Bytes.{Bytes, if, isEmpty};
+ghost use Rattle.support.specs.TextRules.{startsWithEmptyLine};
+ghost use Rattle.json_path.specs.Span.{spanCount};
+ghost use Rattle.template.specs.Kind.{plain, skipped, kindOf};
+ghost use Rattle.template.specs.Checks.{maxSpans};
+ghost use Rattle.template.specs.Step.{afterGap, standalone};
+ghost use Rattle.template.specs.Element.{Good, newElement};
+ghost use Rattle.template.specs.Visit.{stageMeans, VisitIs};
+ghost use Rattle.template.specs.Visiting.{KindIs, TagMakes, AdvanceIs, frontOf, rawFront, gapText, trimOf, helperOf, decoratorOf, CutIs, LineIs, StageIs, ActIs};
 
 pub struct Options {
     pub prevent_indent: bool,
@@ -66,4 +94,491 @@ pub enum Visit {
     Refused(Refusal),
     End,
     Step(Step),
+}
+
+fn refused(number: u32, place: usize) -> Visit
+    ensures { λ r. ⌜ r ≡ Visit.Refused (record { number = number; place = place }) ⌝ }
+{
+    Visit::Refused(Refusal {
+        number: number,
+        place: place,
+    })
+}
+
+// The place of a later offset.
+fn advance(text: &[u8], here: Here, to: usize) -> Here
+    ensures { λ r. ⌜ AdvanceIs (now (text .entry)) here to r ⌝ }
+{
+    let from = here.place;
+    Here {
+        place: line_col(from, part(text, here.at, to)),
+        at: to,
+    }
+}
+
+// The first holds and the second does not.
+fn but_not(a: bool, b: bool) -> bool
+    ensures { λ r. ⌜ r ≡ (a && not b) ⌝ }
+{
+    a && !b
+}
+
+fn front_of(m: Marks) -> Front
+    ensures { λ r. ⌜ r ≡ frontOf m ⌝ }
+{
+    if m.trim_line_required {
+        return Front::Line;
+    }
+    Front::Kept
+}
+
+// The gap before a span, as a text.
+fn gap_of(words: &[u32], m: Marks, s: Span, place: Place) -> Element
+    ensures { λ r. ⌜ r ≡ newElement (TemplateElement.RawString (gapText (now (words .entry)) m s)) place ⌝ }
+{
+    Element::new(
+        TemplateElement::RawString(RawString {
+            start: m.end_pos,
+            end: s.start,
+            escapes: span_count(words),
+            front: front_of(m),
+            back: Back::Kept,
+        }),
+        place,
+    )
+}
+
+// A raw block that waits takes the gap as its body.
+fn stage_after_gap(g: Stage, gap: bool) -> Stage
+    ensures { λ r. ⌜ stageMeans r ≡ if gap (afterGap (stageMeans g)) (stageMeans g) ⌝ }
+{
+    if !gap {
+        return g;
+    }
+    match g {
+        Stage::Waiting => Stage::Full,
+        Stage::Filling => Stage::Filling,
+        Stage::Full => Stage::Full,
+    }
+}
+
+fn skipped(words: &[u32], v: View, s: Span, gap: bool, here: Here) -> Visit
+    requires { ⌜ kindOf (s .tag) ≡ plain skipped ⌝ ∗ ⌜ s .number < spanCount (now words) ⌝ }
+    ensures { λ r. ⌜ ((text : Bytes) (o : Options) → KindIs text (now (words .entry)) o v s gap here r) ⌝ }
+{
+    let m = v.marks;
+    let g = m.stage;
+    Visit::Step(Step {
+        gapped: gap,
+        gap: gap_of(words, m, s, here.place),
+        back: Back::Kept,
+        act: Act::Skip,
+        marks: Marks {
+            stage: stage_after_gap(g, gap),
+            end_pos: s.end,
+            started: true,
+            omit_pro_ws: m.omit_pro_ws,
+            trim_line_required: but_not(m.trim_line_required, gap),
+        },
+        here: here,
+        next: s.number + 1,
+    })
+}
+
+// A template span gives the body that is waited for; it does not become the previous one.
+fn template(v: View, s: Span) -> Visit
+    requires { ⌜ s .tag ≡ 1 ⌝ ∗ ⌜ s .number < maxSpans ⌝ }
+    ensures { λ r. ⌜ ((text : Bytes) (words : List ℕ) (o : Options) (gap : Bool) (here : Here) → KindIs text words o v s gap here r) ⌝ }
+{
+    let m = v.marks;
+    let here = v.here;
+    Visit::Step(Step {
+        gapped: false,
+        gap: Element::EMPTY,
+        back: Back::Kept,
+        act: Act::Skip,
+        marks: Marks {
+            stage: Stage::Filling,
+            end_pos: m.end_pos,
+            started: m.started,
+            omit_pro_ws: m.omit_pro_ws,
+            trim_line_required: m.trim_line_required,
+        },
+        here: here,
+        next: s.number + 1,
+    })
+}
+
+fn raw_front(m: Marks) -> Front
+    ensures { λ r. ⌜ r ≡ rawFront m ⌝ }
+{
+    if m.omit_pro_ws {
+        return Front::White;
+    }
+    front_of(m)
+}
+
+// The text of tag 2, from the previous end, or 3, its own span.
+fn text_of(v: View, s: Span, start: usize, place: Place) -> Element
+    requires { ⌜ s .number < maxSpans ⌝ }
+    ensures { λ r. ⌜ r ≡ newElement (TemplateElement.RawString (record { start = start; end = s .end; escapes = s .number + 1; front = rawFront (v .marks); back = Back.Kept })) place ⌝ }
+{
+    let m = v.marks;
+    Element::new(
+        TemplateElement::RawString(RawString {
+            start: start,
+            end: s.end,
+            escapes: s.number + 1,
+            front: raw_front(m),
+            back: Back::Kept,
+        }),
+        place,
+    )
+}
+
+// The text of tag 2 begins at the previous end.
+fn raw_string(text: &[u8], words: &[u32], v: View, s: Span, here: Here) -> Visit
+    requires { ⌜ s .tag ≡ 2 ⌝ ∗ ⌜ s .number < maxSpans ⌝ }
+    ensures { λ r. ⌜ ((o : Options) (gap : Bool) → KindIs (now (text .entry)) (now (words .entry)) o v s gap here r) ⌝ }
+{
+    let m = v.marks;
+    if bad_escapes(text, words, m.end_pos, s.end, s.number + 1) {
+        return refused(13, s.number);
+    }
+    Visit::Step(Step {
+        gapped: false,
+        gap: Element::EMPTY,
+        back: Back::Kept,
+        act: Act::Add(text_of(v, s, m.end_pos, here.place)),
+        marks: Marks {
+            stage: Stage::Filling,
+            end_pos: s.end,
+            started: true,
+            omit_pro_ws: m.omit_pro_ws,
+            trim_line_required: false,
+        },
+        here: here,
+        next: s.number + 1,
+    })
+}
+
+// That of tag 3 is its own span; a raw body takes nothing more.
+fn raw_block_text(text: &[u8], words: &[u32], v: View, s: Span, here: Here) -> Visit
+    requires { ⌜ s .tag ≡ 3 ⌝ ∗ ⌜ s .number < maxSpans ⌝ }
+    ensures { λ r. ⌜ ((o : Options) (gap : Bool) → KindIs (now (text .entry)) (now (words .entry)) o v s gap here r) ⌝ }
+{
+    let m = v.marks;
+    if bad_escapes(text, words, s.start, s.end, s.number + 1) {
+        return refused(13, s.number);
+    }
+    Visit::Step(Step {
+        gapped: false,
+        gap: Element::EMPTY,
+        back: Back::Kept,
+        act: Act::Add(text_of(v, s, s.start, here.place)),
+        marks: Marks {
+            stage: Stage::Full,
+            end_pos: s.end,
+            started: true,
+            omit_pro_ws: m.omit_pro_ws,
+            trim_line_required: m.trim_line_required,
+        },
+        here: here,
+        next: s.number + 1,
+    })
+}
+
+// An empty line starts after the tag, or nothing at all follows and it is no partial.
+fn with_trailing_newline(continuation: &[u8], is_partial: bool) -> bool
+    ensures { λ r. ⌜ r ≡ (startsWithEmptyLine (now (continuation .entry)) || (isEmpty (now (continuation .entry)) && not «is_partial»)) ⌝ }
+{
+    if starts_with_empty_line(continuation) {
+        return true;
+    }
+    if continuation.len() == 0 {
+        return !is_partial;
+    }
+    false
+}
+
+// And an empty line ends before it.
+fn process_standalone_statement(text: &[u8], s: Span, is_partial: bool) -> bool
+    ensures { λ r. ⌜ r ≡ standalone (now (text .entry)) «is_partial» s ⌝ }
+{
+    let continuation = part(text, s.end, text.len());
+    if !with_trailing_newline(continuation, is_partial) {
+        return false;
+    }
+    ends_with_empty_line(part(text, 0, s.start))
+}
+
+// How the last text is trimmed: by a left tilde, or by the standalone test.
+fn trim_of(left: bool, cut: bool) -> Back
+    ensures { λ r. ⌜ r ≡ trimOf left cut ⌝ }
+{
+    if left {
+        return Back::White;
+    }
+    if cut {
+        return Back::Blanks;
+    }
+    Back::Kept
+}
+
+fn comment(
+    text: &[u8],
+    words: &[u32],
+    o: Options,
+    v: View,
+    s: Span,
+    gap: bool,
+    here: Here,
+) -> Visit
+    requires { ⌜ 19 ≤ s .tag ⌝ ∗ ⌜ s .tag ≤ 20 ⌝ ∗ ⌜ s .number < maxSpans ⌝ }
+    ensures { λ r. ⌜ KindIs (now (text .entry)) (now (words .entry)) o v s gap here r ⌝ }
+{
+    let m = v.marks;
+    let g = m.stage;
+    let standalone = process_standalone_statement(text, s, o.is_partial);
+    let e = Element::new(
+        TemplateElement::Comment(Comment {
+            start: s.start,
+            end: s.end,
+            compact: s.tag == 19,
+        }),
+        here.place,
+    );
+    Visit::Step(Step {
+        gapped: gap,
+        gap: gap_of(words, m, s, here.place),
+        back: trim_of(false, standalone),
+        act: Act::Add(e),
+        marks: Marks {
+            stage: stage_after_gap(g, gap),
+            end_pos: s.end,
+            started: true,
+            omit_pro_ws: m.omit_pro_ws,
+            trim_line_required: standalone,
+        },
+        here: here,
+        next: s.number + 1,
+    })
+}
+
+fn helper(x: TagExpression, s: Span, indent: bool) -> HelperTemplate
+    ensures { λ r. ⌜ r ≡ helperOf x s indent ⌝ }
+{
+    let name = x.name;
+    HelperTemplate {
+        name: name,
+        from: x.from,
+        limit: s.end,
+        indent_before_write: indent,
+    }
+}
+
+fn decorator(x: TagExpression, s: Span, mark: bool, indent: bool) -> DecoratorTemplate
+    ensures { λ r. ⌜ r ≡ decoratorOf x s mark indent ⌝ }
+{
+    let name = x.name;
+    DecoratorTemplate {
+        name: name,
+        from: x.from,
+        limit: s.end,
+        indent_before_write: mark,
+        indent: indent,
+        start: s.start,
+    }
+}
+
+// What a block start or an else-if does.
+fn begin_of(s: Span, x: TagExpression, place: Place, mark: bool) -> Act
+    ensures { λ r. ⌜ ((indent : Bool) → 5 ≤ s .tag → s .tag ≤ 10 → ActIs s x place mark indent r) ⌝ }
+{
+    let h = Element::new(TemplateElement::HelperBlock(helper(x, s, mark)), place);
+    let d = decorator(x, s, mark, false);
+    let tag = s.tag;
+    match tag {
+        5 => Act::Begin(h, Opened::Helper),
+        6 => Act::Begin(h, Opened::Raw),
+        7 => Act::Begin(Element::new(TemplateElement::DecoratorBlock(d), place), Opened::Decorator),
+        8 => Act::Begin(Element::new(TemplateElement::PartialBlock(d), place), Opened::Partial),
+        9 => Act::Else,
+        _ => Act::Chain(h),
+    }
+}
+
+// What a tag does after its gap and trims; `mark`: the indent mark, `indent`: blanks are kept.
+fn act_of(s: Span, x: TagExpression, place: Place, mark: bool, indent: bool) -> Act
+    requires { ⌜ 5 ≤ s .tag ⌝ ∗ ⌜ s .tag ≤ 18 ⌝ }
+    ensures { λ r. ⌜ ActIs s x place mark indent r ⌝ }
+{
+    let h = helper(x, s, false);
+    let tag = s.tag;
+    match tag {
+        5..=10 => begin_of(s, x, place, mark),
+        11 => Act::Add(Element::new(TemplateElement::Expression(h), place)),
+        12 => Act::Add(Element::new(TemplateElement::HtmlExpression(h), place)),
+        13 => Act::Add(Element::new(
+            TemplateElement::DecoratorExpression(decorator(x, s, mark, false)),
+            place,
+        )),
+        14 => Act::Add(Element::new(
+            TemplateElement::PartialExpression(decorator(x, s, mark, indent)),
+            place,
+        )),
+        _ => Act::Close,
+    }
+}
+
+// The stage behind a tag: block starts and else tags wait for a body.
+fn stage_of(tag: u32) -> Stage
+    ensures { λ r. ⌜ StageIs tag r ⌝ }
+{
+    match tag {
+        5..=10 => Stage::Waiting,
+        _ => Stage::Filling,
+    }
+}
+
+// The standalone test cuts the last blanks: not for tags 11 and 12, nor for 14 under `prevent_indent`.
+fn is_cut(tag: u32, standalone: bool, prevent_indent: bool) -> bool
+    ensures { λ r. ⌜ CutIs tag standalone «prevent_indent» r ⌝ }
+{
+    match tag {
+        11..=12 => false,
+        14 => standalone && !prevent_indent,
+        _ => standalone,
+    }
+}
+
+// The line mark behind a tag: tags 11 and 12 are not tested.
+fn line_mark(tag: u32, standalone: bool, line: bool) -> bool
+    ensures { λ r. ⌜ LineIs tag standalone line r ⌝ }
+{
+    match tag {
+        11..=12 => line,
+        _ => standalone,
+    }
+}
+
+fn step_of(
+    text: &[u8],
+    words: &[u32],
+    o: Options,
+    v: View,
+    s: Span,
+    x: TagExpression,
+    gap: bool,
+    here: Here,
+) -> Step
+    requires { ⌜ 5 ≤ s .tag ⌝ ∗ ⌜ s .tag ≤ 18 ⌝ }
+    ensures { λ r. ⌜ TagMakes (now (text .entry)) (now (words .entry)) o v s x gap here r ⌝ }
+{
+    let m = v.marks;
+    let g = m.stage;
+    let standalone = process_standalone_statement(text, s, o.is_partial);
+    let place = here.place;
+    let after = stage_after_gap(g, gap);
+    let line = but_not(m.trim_line_required, gap);
+    let mark = but_not(standalone, x.omit_pre_ws);
+    let indent = but_not(!o.prevent_indent, x.omit_pre_ws);
+    let cut = is_cut(s.tag, standalone, o.prevent_indent);
+    Step {
+        gapped: gap,
+        gap: gap_of(words, m, s, place),
+        back: trim_of(x.omit_pre_ws, cut),
+        act: act_of(s, x, place, mark, indent),
+        marks: Marks {
+            stage: stage_of(s.tag),
+            end_pos: s.end,
+            started: true,
+            omit_pro_ws: x.omit_pro_ws,
+            trim_line_required: line_mark(s.tag, standalone, line),
+        },
+        here: here,
+        next: x.next,
+    }
+}
+
+// 8, 9 and 12 as met, open blocks last; 10, 11.
+fn tagged(
+    text: &[u8],
+    words: &[u32],
+    o: Options,
+    v: View,
+    s: Span,
+    gap: bool,
+    here: Here,
+) -> Visit
+    requires { ⌜ 5 ≤ s .tag ⌝ ∗ ⌜ s .tag ≤ 18 ⌝ ∗ ⌜ s .number < spanCount (now words) ⌝ }
+    ensures { λ r. ⌜ KindIs (now (text .entry)) (now (words .entry)) o v s gap here r ⌝ }
+{
+    let r = read_tag(text, words, s);
+    match r {
+        TagRead::Failed(f) => refused(fault_number(f), fault_place(span_count(words), s, f)),
+        TagRead::Done(x) => {
+            let name = x.name;
+            let end = name.as_name();
+            let opened = v.name;
+            if too_many_open(s.tag, v.count) {
+                return refused(12, s.number);
+            }
+            if helper_name_differs(text, s.tag, opened, end) {
+                return refused(10, s.number);
+            }
+            if decorator_name_differs(text, s.tag, opened, end) {
+                return refused(11, s.number);
+            }
+            Visit::Step(step_of(text, words, o, v, s, x, gap, here))
+        }
+    }
+}
+
+// What is decided of a span behind 6 and 7, by its tag.
+fn visit_kind(
+    text: &[u8],
+    words: &[u32],
+    o: Options,
+    v: View,
+    s: Span,
+    gap: bool,
+    here: Here,
+) -> Visit
+    requires { ⌜ s .number < spanCount (now words) ⌝ ∗ ⌜ spanCount (now words) ≤ maxSpans ⌝ ∗ ⌜ (s .tag ≡ 4 → ⊥) ⌝ }
+    ensures { λ r. ⌜ KindIs (now (text .entry)) (now (words .entry)) o v s gap here r ⌝ }
+{
+    let tag = s.tag;
+    match tag {
+        1 => template(v, s),
+        2 => raw_string(text, words, v, s, here),
+        3 => raw_block_text(text, words, v, s, here),
+        5..=18 => tagged(text, words, o, v, s, gap, here),
+        19..=20 => comment(text, words, o, v, s, gap, here),
+        _ => skipped(words, v, s, gap, here),
+    }
+}
+
+// The walked span at the cursor: 6, 7, and then by its tag.
+pub(crate) fn visit_span(text: &[u8], words: &[u32], o: Options, v: View, at: usize) -> Visit
+    requires { ⌜ Good (now text) (now words) ⌝ }
+    ensures { λ r. ⌜ VisitIs (now (text .entry)) (now (words .entry)) o v at r ⌝ }
+{
+    let n = next_span(words, at);
+    let Next::Span(s) = n else {
+        return Visit::End;
+    };
+    let m = v.marks;
+    if s.start < m.end_pos {
+        return refused(6, s.number);
+    }
+    let gap = kept_gap(m, s);
+    let g = m.stage;
+    let opened = v.opened;
+    if !nests(g, opened, v.inverted, s.tag, gap) {
+        return refused(7, s.number);
+    }
+    let before = v.here;
+    let here = advance(text, before, s.start);
+    visit_kind(text, words, o, v, s, gap, here)
 }

@@ -1,0 +1,219 @@
+-- The visit of a walked span: 6 and 7, then what its kind decides; of a tag 8 to 12, then its step. Each way out of the code is one law here.
+use Prim.Native.Nat.{ℕ, zero, suc, _+_, _≤_, _<_}
+use native.Mathlib.Omega.{arith}
+use mathlib.Core.Path.{_≡_, refl, sym, ap, subst, _∙_}
+use mathlib.Core.List.{List, [], _∷_}
+use mathlib.Core.Bool.{Bool, true, false, _&&_, _||_, not}
+use mathlib.Core.Option.{Option, none, some}
+use lib.Dec.{ltb}
+use lib.ListN.{length}
+use borrow.Author.Tests.{lt-ltb, le-ltb, ltb-false, not-true, not-false}
+use Rattle.support.specs.Bytes.{Bytes, part}
+use Rattle.support.specs.Utf8.{isCharBoundary}
+use Rattle.support.specs.Position.{placeAt, placeOf, lineCol, largest}
+use Rattle.support.proofs.Places.{line-col-from}
+use Rattle.json_path.specs.Span.{Span, spanCount, spanAt, spansFrom, allFrom}
+use Rattle.json_path.specs.Answers.{Walked}
+use Rattle.json_path.proofs.Spans.{all-next}
+use Rattle.expression.specs.Read.{faultNumber, done, failed}
+use Rattle.expression.specs.Answers.{faultMeans, NamesIs}
+use Rattle.expression.specs.declared.parameter.Fault.{Fault}
+use Rattle.expression.specs.declared.parameter.AsName.{AsName}
+use Rattle.template.specs.Kind.{Tag, tagged, kindOf}
+use Rattle.template.specs.State.{State, prevEnd, owner}
+use Rattle.template.specs.Result.{Result, accepted, refused}
+use Rattle.template.specs.Checks.{badSpan, firstBad}
+use Rattle.template.specs.Nests.{keptGap, nests, startsEarly, outOfNesting}
+use Rattle.template.specs.Refusal.{faultPlace, accept, tooManyOpen, helperNameDiffers, decoratorNameDiffers}
+use Rattle.template.specs.TagExpression.{readTag}
+use Rattle.template.specs.Step.{tagStep}
+use Rattle.template.specs.Walk.{walkTag, walkKind, walkSpan, walk}
+use Rattle.template.specs.Element.{Good}
+use Rattle.template.specs.Asked.{KeptIs, NestsIs, TooManyIs, NamesAre, HelperDiffersIs, DecoratorDiffersIs}
+use Rattle.template.specs.TagRead.{tagMeans, TagDone, TagReadIs}
+use Rattle.template.specs.Visit.{HereIs, Tells, applied, StepIs, VisitIs}
+use Rattle.template.specs.Visiting.{SpanFits, Visited, Makes, KindIs, TagMakes, AdvanceIs}
+use Rattle.template.specs.declared.tag.TagExpression.{TagExpression}
+use Rattle.template.specs.declared.tag.TagRead.{TagRead}
+use Rattle.template.specs.declared.tag.TagRead.the-variants as R
+use Rattle.template.specs.declared.visit.Options.{Options}
+use Rattle.template.specs.declared.visit.Here.{Here}
+use Rattle.template.specs.declared.visit.View.{View}
+use Rattle.template.specs.declared.visit.Step.{Step}
+use Rattle.template.specs.declared.visit.Visit.{Visit}
+use Rattle.template.specs.declared.visit.Visit.the-variants as Vis
+use Rattle.template.proofs.TagKinds.{some-tag}
+use Rattle.template.proofs.WalkEquations.{walk-next, walk-stop}
+use Rattle.template.proofs.VisitLaws.{kind-refused}
+
+-- ---- 5 holds of no span
+
+or-left : (a b : Bool) → (a || b) ≡ false → a ≡ false
+or-left true b e = e
+or-left false b e = refl
+
+or-right : (a b : Bool) → (a || b) ≡ false → b ≡ false
+or-right true b e = let z : _≡_ {A = ℕ} 0 1 = cc in absurd (omega arith)
+or-right false b e = e
+
+fits-of : (text : Bytes) (s : Span) → badSpan text s ≡ false → SpanFits text s
+unfolding badSpan
+fits-of text s e =
+    let a = or-right (ltb 40 (s .tag)) _ e in
+    let b = or-right (ltb (s .end) (s .start)) _ a in
+    let c = or-right (ltb (length text) (s .end)) _ b in
+    record {
+      order = ltb-false (s .end) (s .start) (or-left (ltb (s .end) (s .start)) _ a);
+      inside = ltb-false (length text) (s .end) (or-left (ltb (length text) (s .end)) _ b);
+      starts = not-false (isCharBoundary text (s .start)) (or-left (not (isCharBoundary text (s .start))) _ c);
+      ends = not-false (isCharBoundary text (s .end)) (or-right (not (isCharBoundary text (s .start))) _ c);
+    }
+
+-- the next one is not bad, and none is behind it
+next-good : (text : Bytes) (words : List ℕ) (j : ℕ) → j < spanCount words → firstBad text (allFrom words j) ≡ none
+    → (badSpan text (spanAt words j) ≡ false) × (firstBad text (allFrom words (j + 1)) ≡ none)
+unfolding firstBad
+next-good text words j h e = go (badSpan text (spanAt words j)) refl (ap (firstBad text) (sym (all-next words j h)) ∙ e)
+  where
+    go : (b : Bool) → badSpan text (spanAt words j) ≡ b → firstBad text (spanAt words j ∷ allFrom words (j + 1)) ≡ none
+        → (badSpan text (spanAt words j) ≡ false) × (firstBad text (allFrom words (j + 1)) ≡ none)
+    go true f e = let z = (rw (f, firstBad) at e) in let y : _≡_ {A = ℕ} 0 1 = cc in absurd (omega arith)
+    go false f e = (f, rw (f, firstBad) at e)
+
+none-bad : (text : Bytes) (words : List ℕ) (n j : ℕ) → j + n < spanCount words → firstBad text (allFrom words j) ≡ none → badSpan text (spanAt words (j + n)) ≡ false
+none-bad text words zero j h e =
+    let z : j + 0 ≡ j = omega arith in
+    ap (λ i. badSpan text (spanAt words i)) z ∙ next-good text words j (omega arith) e .0
+none-bad text words (suc n) j h e =
+    let z : j + 1 + n ≡ j + suc n = omega arith in
+    ap (λ i. badSpan text (spanAt words i)) (sym z) ∙ none-bad text words n (j + 1) (omega arith) (next-good text words j (omega arith) e .1)
+
+pub walked-fits : {text : Bytes} {words : List ℕ} {k : ℕ} {s : Span} → Good text words → Walked words k s → SpanFits text s
+walked-fits {text} {words} {k} {s} g w =
+    let e : 0 + s .number ≡ s .number = omega arith in
+    subst (λ z. SpanFits text z) (sym (w .stands)) (fits-of text (spanAt words (s .number)) (ap (λ i. badSpan text (spanAt words i)) (sym e) ∙ none-bad text words (s .number) 0 (omega (arith, w .inside)) (g .spans)))
+
+-- ---- a tag
+
+module _ (text : Bytes) (words : List ℕ) (o : Options) (v : View) (s : Span) (gap : Bool) (here : Here) (lo : 5 ≤ s .tag) (hi : s .tag ≤ 18) where
+  abbrev the : (k : Tag) × (kindOf (s .tag) ≡ tagged k)
+  the = some-tag (s .tag) lo hi
+
+  abbrev Is : Visit → Type 0
+  Is r = KindIs text words o v s gap here r
+
+  pub tag-failed : {f : Fault} {c n p : ℕ} {r : Visit} → TagReadIs text words s (R.Failed f) → c ≡ spanCount words → n ≡ faultNumber (faultMeans f) → p ≡ faultPlace c s (faultMeans f)
+      → r ≡ Vis.Refused (record { number = n; place = p }) → Is r
+  unfolding walkTag
+  tag-failed h c n p e = kind-refused text words o v s here e (λ st u. rw (the .1, h .means (the .0) (the .1)) (cc (c, n, p)))
+
+  module _ {x : TagExpression} (h : TagReadIs text words s (R.Done x)) where
+    reads : TagDone text words (readTag text (the .0) s (spansFrom words (s .number + 1))) (s .end) (s .number + 1) x
+    reads = h .means (the .0) (the .1)
+
+    module _ {b : Bool} (over : TooManyIs (s .tag) (v .count) b) where
+      over-as : {st : State} → Visited text v s gap here st → b ≡ tooManyOpen (the .0) st
+      over-as {st} u = over .means (the .0) st (the .1) (u .tells .count)
+
+      pub tag-over : {r : Visit} → b ≡ true → r ≡ Vis.Refused (record { number = 12; place = s .number }) → Is r
+      unfolding walkTag
+      tag-over q e = kind-refused text words o v s here e (λ st u. rw (the .1, reads .reads, ← over-as u, q))
+
+      module _ (few : b ≡ false) {end : AsName} (named : NamesIs (x .name) end) where
+        names : {st : State} → Visited text v s gap here st → NamesAre text (v .name) end st (tagMeans text words (s .end) x)
+        names u = record { opens = u .tells .name; closes = named .means text words ∙ reads .name }
+
+        module _ {c : Bool} (helper : HelperDiffersIs text (s .tag) (v .name) end c) where
+          helper-as : {st : State} → Visited text v s gap here st → c ≡ helperNameDiffers (the .0) st (tagMeans text words (s .end) x)
+          helper-as {st} u = helper .means (the .0) st _ (the .1) (names u)
+
+          pub tag-helper : {r : Visit} → c ≡ true → r ≡ Vis.Refused (record { number = 10; place = s .number }) → Is r
+          unfolding walkTag
+          tag-helper q e = kind-refused text words o v s here e (λ st u. rw (the .1, reads .reads, ← over-as u, few, ← helper-as u, q))
+
+          module _ (same : c ≡ false) {d : Bool} (decorator : DecoratorDiffersIs text (s .tag) (v .name) end d) where
+            decorator-as : {st : State} → Visited text v s gap here st → d ≡ decoratorNameDiffers (the .0) st (tagMeans text words (s .end) x)
+            decorator-as {st} u = decorator .means (the .0) st _ (the .1) (names u)
+
+            pub tag-decorator : {r : Visit} → d ≡ true → r ≡ Vis.Refused (record { number = 11; place = s .number }) → Is r
+            unfolding walkTag
+            tag-decorator q e = kind-refused text words o v s here e (λ st u. rw (the .1, reads .reads, ← over-as u, few, ← helper-as u, same, ← decorator-as u, q))
+
+            pub tag-steps : {p : Step} → d ≡ false → TagMakes text words o v s x gap here p → Is (Vis.Step p)
+            unfolding walkTag
+            tag-steps {p} q t = record {
+              means = λ st u. record {
+                makes = rw (the .1, reads .reads, ← over-as u, few, ← helper-as u, same, ← decorator-as u, q) (cc (t .makes (the .0) st (the .1) u, t .next));
+                gap = t .gapMade st u;
+                act = t .allowed (the .0) st (the .1) u (sym (over-as u) ∙ few) (reads .name);
+                here = t .placed st u;
+                previous = t .previous st;
+                onward = omega (arith, reads .onward, t .next);
+              };
+            }
+
+-- ---- the visit
+
+module _ (text : Bytes) (words : List ℕ) (o : Options) (v : View) (at : ℕ) where
+  abbrev Visits : Visit → Type 0
+  Visits r = VisitIs text words o v at r
+
+  pub visit-end : spansFrom words at ≡ [] → Visits Vis.End
+  visit-end e = record { means = λ st t. e }
+
+  module _ {s : Span} (w : Walked words at s) where
+    refused-as : {n p : ℕ} {r : Visit} → r ≡ Vis.Refused (record { number = n; place = p })
+        → ((st : State) → Tells text v st → walkSpan text words (o .«prevent_indent») (o .«is_partial») st s (spansFrom words (s .number + 1)) ≡ refused n p) → Visits r
+    refused-as {n} {p} e f = subst (λ z. Visits z) (sym e)
+        (record { means = λ st t. ap (walk text words (o .«prevent_indent») (o .«is_partial») st) (w .first) ∙ walk-stop text words (o .«prevent_indent») (o .«is_partial») st s _ n p (f st t) })
+
+    pub visit-early : {r : Visit} → s .start < v .marks .«end_pos» → r ≡ Vis.Refused (record { number = 6; place = s .number }) → Visits r
+    unfolding walkSpan
+    visit-early h e = refused-as e (λ st t. rw (lt-ltb (s .start) (prevEnd st) (omega (arith, h, t .marks .previous))))
+
+    module _ (late : v .marks .«end_pos» ≤ s .start) {gap : Bool} (kept : KeptIs (v .marks) s gap)
+        {b : Bool} (nest : NestsIs (v .marks .stage) (v .opened) (v .inverted) (s .tag) gap b) where
+      not-early : {st : State} → Tells text v st → startsEarly st s ≡ false
+      not-early {st} t = le-ltb (s .start) (prevEnd st) (omega (arith, late, t .marks .previous))
+
+      nests-as : {st : State} → Tells text v st → b ≡ nests (kindOf (s .tag)) (keptGap st s) st
+      nests-as {st} t = nest .means st (t .marks .stage) (t .opened) ∙ ap (λ z. nests (kindOf (s .tag)) z st) (kept .means st (t .marks))
+
+      pub visit-out : {r : Visit} → not b ≡ true → r ≡ Vis.Refused (record { number = 7; place = s .number }) → Visits r
+      unfolding walkSpan
+      visit-out q e = refused-as e (λ st t. rw (not-early t, ← nests-as t, q))
+
+      module _ (good : Good text words) (inner : not b ≡ false) {here : Here} (adv : AdvanceIs text (v .here) (s .start) here) where
+        visited : {st : State} → Tells text v st → Visited text v s gap here st
+        visited {st} t =
+            let x = t .here in
+            let y = t .marks .previous in
+            record {
+              tells = t;
+              fits = walked-fits good w;
+              kept = kept .means st (t .marks);
+              early = omega (arith, late, y);
+              nested = sym (nest .means st (t .marks .stage) (t .opened)) ∙ not-false b inner;
+              place = adv .place ∙ ap (λ p. lineCol p (part text (v .here .at) (s .start))) (x .place) ∙ line-col-from text (v .here .at) (s .start) (omega (arith, good .short)) (omega (arith, x .before, late, y));
+              at = adv .at;
+            }
+
+        walks : {st : State} → Tells text v st → walkSpan text words (o .«prevent_indent») (o .«is_partial») st s (spansFrom words (s .number + 1)) ≡ walkKind text words (o .«prevent_indent») (o .«is_partial») (kindOf (s .tag)) st s (spansFrom words (s .number + 1))
+        unfolding walkSpan
+        walks t = rw (not-early t, ← nests-as t, inner)
+
+        step-of : (p : Step) {st : State} → Tells text v st → Makes text words o s p st → StepIs text words o at p st
+        step-of p {st} t k = record {
+          steps = ap (walk text words (o .«prevent_indent») (o .«is_partial») st) (w .first) ∙ walk-next text words (o .«prevent_indent») (o .«is_partial») st s _ _ (walks t ∙ k .makes);
+          gap = k .gap;
+          act = k .act;
+          here = k .here;
+          previous = k .previous;
+          onward = omega (arith, w .from, k .onward);
+          inside = omega (arith, w .from, w .inside);
+        }
+
+        pub visit-kind : (r : Visit) → KindIs text words o v s gap here r → Visits r
+        visit-kind (Vis.Refused f) k = record { means = λ st t. ap (walk text words (o .«prevent_indent») (o .«is_partial») st) (w .first) ∙ walk-stop text words (o .«prevent_indent») (o .«is_partial») st s _ (f .number) (f .place) (walks t ∙ k .means st (visited t)) }
+        visit-kind Vis.End k = record { means = λ st t. absurd (k .means st (visited t)) }
+        visit-kind (Vis.Step p) k = record { means = λ st t. step-of p t (k .means st (visited t)) }

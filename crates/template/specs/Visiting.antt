@@ -1,0 +1,184 @@
+-- What is decided of a walked span once 6 and 7 are asked, by its kind.
+use Prim.Native.Nat.{ℕ, _+_, _≤_, _<_}
+use mathlib.Core.Path.{_≡_}
+use mathlib.Core.List.{List}
+use mathlib.Core.Bool.{Bool, true, false, _&&_, not}
+use lib.ListN.{length}
+use Rattle.support.specs.Bytes.{Bytes, if, part}
+use Rattle.support.specs.Utf8.{isCharBoundary}
+use Rattle.support.specs.Position.{placeAt, placeOf, lineCol}
+use Rattle.support.specs.declared.position.Place as code
+use Rattle.json_path.specs.Span.{Span, spanCount, spansFrom}
+use Rattle.expression.specs.Expression.{asName, nameOf}
+use Rattle.expression.specs.Answers.{paramMeans}
+use Rattle.template.specs.Kind as K
+use Rattle.template.specs.Kind.{Tag, tagged, kindOf}
+use Rattle.template.specs.State as S
+use Rattle.template.specs.State.{State, prevEnd}
+use Rattle.template.specs.Result.{accepted, refused}
+use Rattle.template.specs.Nests.{keptGap, nests}
+use Rattle.template.specs.Refusal.{tooManyOpen}
+use Rattle.template.specs.Step.{tagStep}
+use Rattle.template.specs.Walk.{walkKind}
+use Rattle.template.specs.Element.{callAt, newElement}
+use Rattle.template.specs.TagRead.{tagMeans}
+use Rattle.template.specs.Visit.{stageMeans, withMarks, HereIs, Tells, applied, GapMade, Allowed}
+use Rattle.template.specs.declared.element.Front.{Front}
+use Rattle.template.specs.declared.element.Front.the-variants as Front
+use Rattle.template.specs.declared.element.Back.{Back}
+use Rattle.template.specs.declared.element.Back.the-variants as Back
+use Rattle.template.specs.declared.element.RawString.{RawString}
+use Rattle.template.specs.declared.element.HelperTemplate.{HelperTemplate}
+use Rattle.template.specs.declared.element.DecoratorTemplate.{DecoratorTemplate}
+use Rattle.template.specs.declared.element.TemplateElement.the-variants as E
+use Rattle.template.specs.declared.element.Element.{Element}
+use Rattle.template.specs.declared.frame.Marks.{Marks}
+use Rattle.template.specs.declared.frame.Stage.{Stage}
+use Rattle.template.specs.declared.frame.Opened.the-variants as O
+use Rattle.template.specs.declared.tag.TagExpression.{TagExpression}
+use Rattle.template.specs.declared.visit.Options.{Options}
+use Rattle.template.specs.declared.visit.Here.{Here}
+use Rattle.template.specs.declared.visit.View.{View}
+use Rattle.template.specs.declared.visit.Act.{Act}
+use Rattle.template.specs.declared.visit.Act.the-variants as A
+use Rattle.template.specs.declared.visit.Step.{Step}
+use Rattle.template.specs.declared.visit.Visit.{Visit}
+use Rattle.template.specs.declared.visit.Visit.the-variants as Vis
+
+-- a span of an input that passes 5
+pub record SpanFits (text : Bytes) (s : Span) : Type 0 where
+  pub order : s .start ≤ s .end
+  pub inside : s .end ≤ length text
+  pub starts : isCharBoundary text (s .start) ≡ true
+  pub ends : isCharBoundary text (s .end) ≡ true
+
+-- v tells of st, 6 and 7 do not hold of s, and this is its gap and its place
+pub record Visited (text : Bytes) (v : View) (s : Span) (gap : Bool) (here : Here) (st : State) : Type 0 where
+  pub tells : Tells text v st
+  pub fits : SpanFits text s
+  pub kept : gap ≡ keptGap st s
+  pub early : prevEnd st ≤ s .start
+  pub nested : nests (kindOf (s .tag)) gap st ≡ true
+  pub place : placeOf (here .place) ≡ placeAt text (s .start)
+  pub at : here .at ≡ s .start
+
+module _ (text : Bytes) (words : List ℕ) where
+  -- p is the step that s makes from st
+  pub record Makes (o : Options) (s : Span) (p : Step) (st : State) : Type 0 where
+    pub makes : walkKind text words (o .«prevent_indent») (o .«is_partial») (kindOf (s .tag)) st s (spansFrom words (s .number + 1)) ≡ accepted (applied text words p st, spansFrom words (p .next))
+    pub gap : GapMade text words (p .gapped) (p .gap)
+    pub act : Allowed text words (p .act) st
+    pub here : HereIs text (p .here) (p .marks .«end_pos»)
+    pub previous : p .marks .«end_pos» ≡ prevEnd (withMarks (p .marks) st)
+    pub onward : s .number < p .next
+
+  abbrev pub kindMeans : Options → Span → Visit → State → Type 0
+  kindMeans o s (Vis.Refused f) st = walkKind text words (o .«prevent_indent») (o .«is_partial») (kindOf (s .tag)) st s (spansFrom words (s .number + 1)) ≡ refused (f .number) (f .place)
+  kindMeans o s Vis.End st = ⊥
+  kindMeans o s (Vis.Step p) st = Makes o s p st
+
+  -- r is what is decided of s behind 6 and 7
+  pub record KindIs (o : Options) (v : View) (s : Span) (gap : Bool) (here : Here) (r : Visit) : Type 0 where
+    pub means : (st : State) → Visited text v s gap here st → kindMeans o s r st
+
+  -- p is the step of the tag s that has read x, where 12 does not hold
+  pub record TagMakes (o : Options) (v : View) (s : Span) (x : TagExpression) (gap : Bool) (here : Here) (p : Step) : Type 0 where
+    pub makes : (k : Tag) (st : State) → kindOf (s .tag) ≡ tagged k → Visited text v s gap here st
+        → tagStep text (o .«prevent_indent») (o .«is_partial») k st s (tagMeans text words (s .end) x) ≡ applied text words p st
+    pub gapMade : (st : State) → Visited text v s gap here st → GapMade text words (p .gapped) (p .gap)
+    pub allowed : (k : Tag) (st : State) → kindOf (s .tag) ≡ tagged k → Visited text v s gap here st → tooManyOpen k st ≡ false
+        → asName (paramMeans text words (x .name)) ≡ nameOf (callAt text words (x .from) (s .end)) → Allowed text words (p .act) st
+    pub placed : (st : State) → Visited text v s gap here st → HereIs text (p .here) (p .marks .«end_pos»)
+    pub previous : (st : State) → p .marks .«end_pos» ≡ prevEnd (withMarks (p .marks) st)
+    pub next : p .next ≡ x .next
+
+-- ---- what a step is made of
+
+-- r is the place of a later offset
+pub record AdvanceIs (text : Bytes) (here : Here) (to : ℕ) (r : Here) : Type 0 where
+  pub place : placeOf (r .place) ≡ lineCol (placeOf (here .place)) (part text (here .at) to)
+  pub at : r .at ≡ to
+
+-- how the front of a gap, and of a text of tag 2 or 3, is trimmed
+
+abbrev pub frontOf : Marks → Front
+frontOf m = if (m .«trim_line_required») Front.Line Front.Kept
+
+abbrev pub rawFront : Marks → Front
+rawFront m = if (m .«omit_pro_ws») Front.White (frontOf m)
+
+-- the gap before s as a text; no escapes are listed at the count
+abbrev pub gapText : List ℕ → Marks → Span → RawString
+gapText words m s = record { start = m .«end_pos»; end = s .start; escapes = spanCount words; front = frontOf m; back = Back.Kept }
+
+-- how the last text is trimmed: by a left tilde, or by the standalone test
+abbrev pub trimOf : Bool → Bool → Back
+trimOf left cut = if left Back.White (if cut Back.Blanks Back.Kept)
+
+-- the standalone test cuts the last blanks
+abbrev pub cutOf : Tag → Bool → Bool → Bool
+cutOf (K.blockStart k) alone prevent = alone
+cutOf K.invertTag alone prevent = alone
+cutOf K.invertChainTag alone prevent = alone
+cutOf K.expression alone prevent = false
+cutOf K.htmlExpression alone prevent = false
+cutOf K.decoratorExpression alone prevent = alone
+cutOf K.partialExpression alone prevent = alone && not prevent
+cutOf (K.blockEnd k) alone prevent = alone
+
+-- the line mark behind a tag
+abbrev pub lineOf : Tag → Bool → Bool → Bool
+lineOf (K.blockStart k) alone line = alone
+lineOf K.invertTag alone line = alone
+lineOf K.invertChainTag alone line = alone
+lineOf K.expression alone line = line
+lineOf K.htmlExpression alone line = line
+lineOf K.decoratorExpression alone line = alone
+lineOf K.partialExpression alone line = alone
+lineOf (K.blockEnd k) alone line = alone
+
+-- block starts and else tags wait for a body
+abbrev pub stageBehind : Tag → S.Stage
+stageBehind (K.blockStart k) = S.waiting
+stageBehind K.invertTag = S.waiting
+stageBehind K.invertChainTag = S.waiting
+stageBehind K.expression = S.filling
+stageBehind K.htmlExpression = S.filling
+stageBehind K.decoratorExpression = S.filling
+stageBehind K.partialExpression = S.filling
+stageBehind (K.blockEnd k) = S.filling
+
+-- the link to the expression of a tag that has read x
+abbrev pub helperOf : TagExpression → Span → Bool → HelperTemplate
+helperOf x s mark = record { name = x .name; from = x .from; limit = s .end; «indent_before_write» = mark }
+
+abbrev pub decoratorOf : TagExpression → Span → Bool → Bool → DecoratorTemplate
+decoratorOf x s mark indent = record { name = x .name; from = x .from; limit = s .end; «indent_before_write» = mark; indent = indent; start = s .start }
+
+-- what a tag that has read x does after its gap and trims
+abbrev pub actFor : Tag → Span → TagExpression → code.Place → Bool → Bool → Act
+actFor (K.blockStart K.helperBlock) s x p mark indent = A.Begin (newElement (E.HelperBlock (helperOf x s mark)) p) O.Helper
+actFor (K.blockStart K.rawBlock) s x p mark indent = A.Begin (newElement (E.HelperBlock (helperOf x s mark)) p) O.Raw
+actFor (K.blockStart K.decoratorBlock) s x p mark indent = A.Begin (newElement (E.DecoratorBlock (decoratorOf x s mark false)) p) O.Decorator
+actFor (K.blockStart K.partialBlock) s x p mark indent = A.Begin (newElement (E.PartialBlock (decoratorOf x s mark false)) p) O.Partial
+actFor K.invertTag s x p mark indent = A.Else
+actFor K.invertChainTag s x p mark indent = A.Chain (newElement (E.HelperBlock (helperOf x s mark)) p)
+actFor K.expression s x p mark indent = A.Add (newElement (E.Expression (helperOf x s false)) p)
+actFor K.htmlExpression s x p mark indent = A.Add (newElement (E.HtmlExpression (helperOf x s false)) p)
+actFor K.decoratorExpression s x p mark indent = A.Add (newElement (E.DecoratorExpression (decoratorOf x s mark false)) p)
+actFor K.partialExpression s x p mark indent = A.Add (newElement (E.PartialExpression (decoratorOf x s mark indent)) p)
+actFor (K.blockEnd k) s x p mark indent = A.Close
+
+-- r is that of the tag, whatever tag it is
+
+pub record CutIs (tag : ℕ) (alone prevent r : Bool) : Type 0 where
+  pub means : (k : Tag) → kindOf tag ≡ tagged k → r ≡ cutOf k alone prevent
+
+pub record LineIs (tag : ℕ) (alone line r : Bool) : Type 0 where
+  pub means : (k : Tag) → kindOf tag ≡ tagged k → r ≡ lineOf k alone line
+
+pub record StageIs (tag : ℕ) (r : Stage) : Type 0 where
+  pub means : (k : Tag) → kindOf tag ≡ tagged k → stageMeans r ≡ stageBehind k
+
+pub record ActIs (s : Span) (x : TagExpression) (p : code.Place) (mark indent : Bool) (r : Act) : Type 0 where
+  pub means : (k : Tag) → kindOf (s .tag) ≡ tagged k → r ≡ actFor k s x p mark indent
