@@ -39,3 +39,5 @@ pub mod TagSteps
 pub mod StepParts
 pub mod SpanVisits
 pub mod SpanCases
+pub mod ShortTexts
+pub mod ShortExpressions

@@ -1,4 +1,5 @@
 // The lister: it goes through the store along its links and writes document 01's forms.
+use crate::compile::Answer;
 use crate::element::Comment;
 use crate::element::DecoratorTemplate;
 use crate::element::Element;
@@ -20,6 +21,7 @@ use support::str::hbs_comment_text;
 ghost use mathlib.Core.Path.{_≡_};
 ghost use mathlib.Core.List.{[], _++_};
 ghost use mathlib.Core.Bool.{_&&_, not};
+ghost use lib.ListN.{length};
 ghost use Rattle.support.specs.Bytes.{ascii};
 ghost use Rattle.listing.specs.Quoted.{quoted};
 ghost use Rattle.listing.specs.Form.{writeField, writeForm, writeForms};
@@ -28,6 +30,8 @@ ghost use Rattle.listing.specs.Tree.{Body};
 ghost use Rattle.listing.specs.Listing.{bit, placeField, indentField, itemForm, write};
 ghost use Rattle.listing.specs.Children.{decoratorChildren, helperChildren};
 ghost use Rattle.listing.specs.Written.{Written};
+ghost use Rattle.template.specs.Compile.{fit};
+ghost use Rattle.template.specs.Answers.{AnswerIs};
 ghost use Rattle.template.specs.Element.{placeMeans, linkOf, rawMeans, commentMeans, indentMeans, headAt, roleOf, Good, RawGood, Sound};
 ghost use Rattle.template.specs.Store.{Holds, Stored};
 ghost use Rattle.template.specs.Opening.{blockOpening, decoratedBytes, opening, hasBody};
