@@ -35,7 +35,7 @@ use Rattle.template.specs.declared.element.Element.{Element}
 
 -- ---- fields
 
-empty : (t : Bytes) → length t ≡ 0 → t ≡ []
+pub empty : (t : Bytes) → length t ≡ 0 → t ≡ []
 empty [] h = refl
 empty (c ∷ t) h = absurd (omega arith)
 
@@ -93,7 +93,7 @@ module _ {l m : Bytes} {at r : ℕ} where
 -- ---- the bytes of a form
 
 -- `[word P` and what follows
-head-one : (w : Word) (f : Field) (x : Bytes) → writeHead w (f ∷ []) ++ x ≡ (ascii "[" ++ (spell w ++ ascii " ")) ++ (writeField f ++ x)
+pub head-one : (w : Word) (f : Field) (x : Bytes) → writeHead w (f ∷ []) ++ x ≡ (ascii "[" ++ (spell w ++ ascii " ")) ++ (writeField f ++ x)
 unfolding writeHead writeFields
 head-one w f x = simp (append-nil, append-assoc)
 
@@ -123,7 +123,7 @@ module _ (text : Bytes) (words : List ℕ) (e : Element) {x : TemplateElement} (
 regroup : (a b c n y x : Bytes) → a ++ (b ++ (c ++ (n ++ (y ++ x)))) ≡ (a ++ (b ++ (c ++ (n ++ y)))) ++ x
 regroup a b c n y x = simp append-assoc
 
-decorated-bytes : (text : Bytes) (words : List ℕ) (w : Word) (p : Option Place) (d : DecoratorTemplate) (x : Bytes)
+pub decorated-bytes : (text : Bytes) (words : List ℕ) (w : Word) (p : Option Place) (d : DecoratorTemplate) (x : Bytes)
     → writeHead w (placeField p ∷ bit (d .«indent_before_write») ∷ indentField (indentMeans text words d) ∷ []) ++ (ascii "\n" ++ (writeForms (callForms (callAt text words (d .from) (d .limit)) nil) ++ x))
     ≡ (ascii "[" ++ (spell w ++ ascii " ")) ++ (decoratedBytes text words p d ++ x)
 unfolding decoratedBytes decoratorChildren

@@ -41,3 +41,5 @@ pub mod SpanVisits
 pub mod SpanCases
 pub mod ShortTexts
 pub mod ShortExpressions
+pub mod ShortListing
+pub mod ListAnswers

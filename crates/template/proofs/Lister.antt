@@ -69,7 +69,7 @@ wrap-bytes f (partialBlock i d c) b = opened Word.partialBlock (f ∷ bit i ∷ 
 data Context : Type 0 where
   context : ℕ → ℕ → Else → Body → Context
 
-abbrev bodyBytes : Body → Bytes
+abbrev pub bodyBytes : Body → Bytes
 bodyBytes b = writeForms (bodyForms b)
 
 -- what follows the body that is being listed
@@ -239,7 +239,7 @@ module _ (text : Bytes) (words : List ℕ) (st : List Element) where
     position = h;
   }
 
-  block-node : {o : Option Place} {h : Head} {e : Element} {c : Bool} → Helper text words o h e → e .chain ≡ c → (b : Body) (x : Else)
+  pub block-node : {o : Option Place} {h : Head} {e : Element} {c : Bool} → Helper text words o h e → e .chain ≡ c → (b : Body) (x : Else)
       → writeForm (elemForm (block o c h b x)) ≡ opening text words e ++ (bodyBytes b ++ (ascii "]\n" ++ (writeForms (elseForms x) ++ ascii "]\n")))
   unfolding openingBy elemForm
   block-node {o} {h} {e} {c} a f b x =
@@ -247,7 +247,7 @@ module _ (text : Bytes) (words : List ℕ) (st : List Element) where
       block-bytes (placeField o) c h (bodyForms b) (elseForms x)
       ∙ ap (_++ (bodyBytes b ++ (ascii "]\n" ++ (writeForms (elseForms x) ++ ascii "]\n")))) i
 
-  wrap-node : {o : Option Place} {w : Wrap} {e : Element} → Wrapper text words o w e → (b : Body)
+  pub wrap-node : {o : Option Place} {w : Wrap} {e : Element} → Wrapper text words o w e → (b : Body)
       → writeForm (elemForm (wrap o w b)) ≡ opening text words e ++ (bodyBytes b ++ (ascii "]\n" ++ (writeForms (elseForms noElse) ++ ascii "]\n")))
   unfolding openingBy elemForm
   wrap-node {o} {w} {e} a b =
@@ -265,7 +265,7 @@ module _ (text : Bytes) (words : List ℕ) (st : List Element) where
       → Turn first l start m ws p at depth size
   turned s h = record { state = s; less = omega (arith, left-size s, h) }
 
-  leaf-bytes : {o : Option Place} {x : Item} {e : Element} → Leaf text words o x e → writeForm (itemForm (placeField o) x) ≡ opening text words e
+  pub leaf-bytes : {o : Option Place} {x : Item} {e : Element} → Leaf text words o x e → writeForm (itemForm (placeField o) x) ≡ opening text words e
   unfolding openingBy
   leaf-bytes h = rw (h .is .role, h .is .place, h .means) refl
 

@@ -320,3 +320,22 @@ fn write_all(
         }
     }
 }
+
+// Measures, and writes what fits.
+pub(crate) fn list(
+    elements: [Element; Element::LIMIT],
+    first: usize,
+    text: &[u8],
+    words: &[u32],
+    out: &mut [u8],
+) -> Answer
+    requires { ⌜ Good (now text) (now words) × Stored (now text) (now words) elements first ⌝ }
+    ensures { λ r. ⌜ ((b : Body) → Holds (now (text .entry)) (now (words .entry)) elements first b → AnswerIs (fit (length (now (out .entry))) (write b)) (now (out .entry)) (now (out .exit)) r) ⌝ }
+{
+    let n = write_all(elements, first, text, words, &mut out[0..0]);
+    if out.len() < n {
+        return Answer::Refused(14, n);
+    }
+    let m = write_all(elements, first, text, words, out);
+    Answer::Listed(m)
+}
