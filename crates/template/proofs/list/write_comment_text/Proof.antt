@@ -1,52 +1,47 @@
-use Rattle.template.proofs.ElementWrites as elements
-use Rattle.listing.proofs.PathWrites as paths
-use Rattle.listing.proofs.Writes as writes
-use native.Mathlib.Omega.{arith}
+-- `template::list::write_comment_text` meets its contract: by the kind of the comment. Assumes nothing.
 use borrow.Author.Needs.{needs}
+use Rattle.template.proofs.ElementWrites as elements
 use Rattle.template.proofs.list.write_comment_text.Statement.{statement}
 use Rattle.template.proofs.list.write_comment_text.Tie as tie
-use Rattle.template.proofs.list.write_comment_text.Reads as reads
-use Rattle.template.proofs.list.write_comment_text.Lts as lts
-use Rattle.listing.proofs.write.write_quoted.Reads as write-quoted-reads
-use Rattle.support.proofs.bytes.part.Reads as part-reads
-use Rattle.support.proofs.str.hbs_comment_compact_text.Reads as hbs-comment-compact-text-reads
-use Rattle.support.proofs.str.hbs_comment_text.Reads as hbs-comment-text-reads
 
--- src/list.rt:67:9
 part-requires : tie.Need-part-requires
 part-requires c κs = search needs
 
--- src/list.rt:69:38
 hbs-comment-compact-text-requires : tie.Need-hbs-comment-compact-text-requires
 hbs-comment-compact-text-requires c κs = search needs
 
--- src/list.rt:69:9
 write-quoted-requires : tie.Need-write-quoted-requires
 write-quoted-requires c κs = search needs
 
--- src/list.rt:69:9
 same-length : tie.Need-same-length
 same-length c = search needs
 
--- src/list.rt:69:9
 returns : tie.Need-returns
-returns c = elements.comment-compact ((c .before .before .before .before .before .before .before .before .before .args) .text .now) ((c .before .before .before .before .before .before .before .before .before .args) .c) ((c .before .before .before .before .before .if1) .taken) ((c .before .before .before .before .before .before .part) .ensures) ((c .before .before .before .hbs-comment-compact-text) .ensures) ((c .before .before .write-quoted) .ensures)
+returns c =
+    let args = c .before .before .before .before .before .before .before .before .before .args in
+    let part = c .before .before .before .before .before .before .part in
+    let if1 = c .before .before .before .before .before .if1 in
+    let hbs-comment-compact-text = c .before .before .before .hbs-comment-compact-text in
+    let write-quoted = c .before .before .write-quoted in
+    elements.comment-compact (args .text .now) (args .c) (if1 .taken) (part .ensures) (hbs-comment-compact-text .ensures) (write-quoted .ensures)
 
--- src/list.rt:71:27
 hbs-comment-text-requires : tie.Need-hbs-comment-text-requires
 hbs-comment-text-requires c κs = search needs
 
--- src/list.rt:71:5
 write-quoted-requires-2 : tie.Need-write-quoted-requires-2
 write-quoted-requires-2 c κs = search needs
 
--- src/list.rt:64:1
 same-length-2 : tie.Need-same-length-2
 same-length-2 c = search needs
 
--- src/list.rt:64:1
 returns-2 : tie.Need-returns-2
-returns-2 c = elements.comment-plain ((c .before .before .before .before .before .before .before .before .before .args) .text .now) ((c .before .before .before .before .before .before .before .before .before .args) .c) ((c .before .before .before .before .before .if1) .left) ((c .before .before .before .before .before .before .part) .ensures) ((c .before .before .before .hbs-comment-text) .ensures) ((c .before .before .write-quoted2) .ensures)
+returns-2 c =
+    let args = c .before .before .before .before .before .before .before .before .before .args in
+    let part = c .before .before .before .before .before .before .part in
+    let if1 = c .before .before .before .before .before .if1 in
+    let hbs-comment-text = c .before .before .before .hbs-comment-text in
+    let write-quoted2 = c .before .before .write-quoted2 in
+    elements.comment-plain (args .text .now) (args .c) (if1 .left) (part .ensures) (hbs-comment-text .ensures) (write-quoted2 .ensures)
 
 pub write-comment-text-spec : {M : Type 1} → statement M
 write-comment-text-spec =

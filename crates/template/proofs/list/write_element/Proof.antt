@@ -1,250 +1,241 @@
-use Rattle.template.proofs.ElementWrites as elements
-use Rattle.listing.proofs.PathWrites as paths
-use Rattle.listing.proofs.Writes as writes
+-- `template::list::write_element` meets its contract: by the element. Assumes nothing.
 use native.Mathlib.Omega.{arith}
 use borrow.Author.Needs.{needs}
+use Rattle.template.proofs.ElementWrites as elements
 use Rattle.template.proofs.list.write_element.Statement.{statement}
 use Rattle.template.proofs.list.write_element.Tie as tie
-use Rattle.template.proofs.list.write_element.Reads as reads
-use Rattle.template.proofs.list.write_element.Lts as lts
-use Rattle.listing.proofs.write.put_bytes.Reads as put-bytes-reads
-use Rattle.template.proofs.list.write_block.Reads as write-block-reads
-use Rattle.template.proofs.list.write_comment.Reads as write-comment-reads
-use Rattle.template.proofs.list.write_decorated.Reads as write-decorated-reads
-use Rattle.template.proofs.list.write_expression.Reads as write-expression-reads
-use Rattle.template.proofs.list.write_text.Reads as write-text-reads
 
--- src/list.rt:188:35
 enum-told : tie.Need-enum-told
 enum-told c = search needs
 
--- src/list.rt:189:36
 enum-known-x : tie.Need-enum-known-x
 enum-known-x c = search needs
 
--- src/list.rt:189:42
 write-text-requires : tie.Need-write-text-requires
-write-text-requires c κs = ((c .before .before .before .before .before .before .before .before .pre) .0, elements.raw-sound ((c .before .before .before .before .before .before .before .before .args) .text .now) ((c .before .before .before .before .before .before .before .before .args) .words .now) ((c .before .before .before .before .before .before .before .before .args) .e) ((c .before .before .x) .given .1) ((c .before .before .before .before .before .before .before .before .pre) .1))
+write-text-requires c κs =
+    let pre = c .before .before .before .before .before .before .before .before .pre in
+    let args = c .before .before .before .before .before .before .before .before .args in
+    let x = c .before .before .x in
+    (pre .0, elements.raw-sound (args .text .now) (args .words .now) (args .e) (x .given .1) (pre .1))
 
--- src/list.rt:190:34
 enum-known-x-2 : tie.Need-enum-known-x-2
 enum-known-x-2 c = search needs
 
--- src/list.rt:190:40
 write-comment-requires : tie.Need-write-comment-requires
 write-comment-requires c κs = search needs
 
--- src/list.rt:191:37
 enum-known-x-3 : tie.Need-enum-known-x-3
 enum-known-x-3 c = search needs
 
--- src/list.rt:192:40
 slice-aggregate-put-bytes : tie.Need-slice-aggregate-put-bytes
 slice-aggregate-put-bytes c = search needs
 
--- src/list.rt:192:17
 put-bytes-requires : tie.Need-put-bytes-requires
 put-bytes-requires c κs = search needs
 
--- src/list.rt:193:13
 write-expression-requires : tie.Need-write-expression-requires
 write-expression-requires c κs = search needs
 
--- src/list.rt:195:41
 enum-known-x-4 : tie.Need-enum-known-x-4
 enum-known-x-4 c = search needs
 
--- src/list.rt:196:40
 slice-aggregate-put-bytes-2 : tie.Need-slice-aggregate-put-bytes-2
 slice-aggregate-put-bytes-2 c = search needs
 
--- src/list.rt:196:17
 put-bytes-requires-2 : tie.Need-put-bytes-requires-2
 put-bytes-requires-2 c κs = search needs
 
--- src/list.rt:197:13
 write-expression-requires-2 : tie.Need-write-expression-requires-2
 write-expression-requires-2 c κs = search needs
 
--- src/list.rt:199:38
 enum-known-x-5 : tie.Need-enum-known-x-5
 enum-known-x-5 c = search needs
 
--- src/list.rt:199:44
 write-block-requires : tie.Need-write-block-requires
 write-block-requires c κs = search needs
 
--- src/list.rt:200:46
 enum-known-x-6 : tie.Need-enum-known-x-6
 enum-known-x-6 c = search needs
 
--- src/list.rt:201:40
 slice-aggregate-put-bytes-3 : tie.Need-slice-aggregate-put-bytes-3
 slice-aggregate-put-bytes-3 c = search needs
 
--- src/list.rt:201:17
 put-bytes-requires-3 : tie.Need-put-bytes-requires-3
 put-bytes-requires-3 c κs = search needs
 
--- src/list.rt:202:17
 write-decorated-requires : tie.Need-write-decorated-requires
 write-decorated-requires c κs = search needs
 
--- src/list.rt:203:31
 slice-aggregate-put-bytes-4 : tie.Need-slice-aggregate-put-bytes-4
 slice-aggregate-put-bytes-4 c = search needs
 
--- src/list.rt:203:13
 put-bytes-requires-4 : tie.Need-put-bytes-requires-4
 put-bytes-requires-4 c κs = search needs
 
--- src/list.rt:205:44
 enum-known-x-7 : tie.Need-enum-known-x-7
 enum-known-x-7 c = search needs
 
--- src/list.rt:206:40
 slice-aggregate-put-bytes-5 : tie.Need-slice-aggregate-put-bytes-5
 slice-aggregate-put-bytes-5 c = search needs
 
--- src/list.rt:206:17
 put-bytes-requires-5 : tie.Need-put-bytes-requires-5
 put-bytes-requires-5 c κs = search needs
 
--- src/list.rt:207:17
 write-decorated-requires-2 : tie.Need-write-decorated-requires-2
 write-decorated-requires-2 c κs = search needs
 
--- src/list.rt:208:31
 slice-aggregate-put-bytes-6 : tie.Need-slice-aggregate-put-bytes-6
 slice-aggregate-put-bytes-6 c = search needs
 
--- src/list.rt:208:13
 put-bytes-requires-6 : tie.Need-put-bytes-requires-6
 put-bytes-requires-6 c κs = search needs
 
--- src/list.rt:210:41
 enum-known-x-8 : tie.Need-enum-known-x-8
 enum-known-x-8 c = search needs
 
--- src/list.rt:211:40
 slice-aggregate-put-bytes-7 : tie.Need-slice-aggregate-put-bytes-7
 slice-aggregate-put-bytes-7 c = search needs
 
--- src/list.rt:211:17
 put-bytes-requires-7 : tie.Need-put-bytes-requires-7
 put-bytes-requires-7 c κs = search needs
 
--- src/list.rt:212:17
 write-decorated-requires-3 : tie.Need-write-decorated-requires-3
 write-decorated-requires-3 c κs = search needs
 
--- src/list.rt:213:31
 slice-aggregate-put-bytes-8 : tie.Need-slice-aggregate-put-bytes-8
 slice-aggregate-put-bytes-8 c = search needs
 
--- src/list.rt:213:13
 put-bytes-requires-8 : tie.Need-put-bytes-requires-8
 put-bytes-requires-8 c κs = search needs
 
--- src/list.rt:215:39
 enum-known-x-9 : tie.Need-enum-known-x-9
 enum-known-x-9 c = search needs
 
--- src/list.rt:216:40
 slice-aggregate-put-bytes-9 : tie.Need-slice-aggregate-put-bytes-9
 slice-aggregate-put-bytes-9 c = search needs
 
--- src/list.rt:216:17
 put-bytes-requires-9 : tie.Need-put-bytes-requires-9
 put-bytes-requires-9 c κs = search needs
 
--- src/list.rt:217:17
 write-decorated-requires-4 : tie.Need-write-decorated-requires-4
 write-decorated-requires-4 c κs = search needs
 
--- src/list.rt:218:31
 slice-aggregate-put-bytes-10 : tie.Need-slice-aggregate-put-bytes-10
 slice-aggregate-put-bytes-10 c = search needs
 
--- src/list.rt:218:13
 put-bytes-requires-10 : tie.Need-put-bytes-requires-10
 put-bytes-requires-10 c κs = search needs
 
--- src/list.rt:175:1
 returns : tie.Need-returns
-returns c = elements.nothing-written ((c .before .before .before .before .before .before .args) .text .now) ((c .before .before .before .before .before .before .args) .words .now) ((c .before .before .before .before .before .before .args) .e) ((c .enum-told) .given .1) (omega arith)
+returns c =
+    let args = c .before .before .before .before .before .before .args in
+    elements.nothing-written (args .text .now) (args .words .now) (args .e) (c .enum-told .given .1) (omega arith)
 
--- src/list.rt:175:1
 same-length : tie.Need-same-length
 same-length c = search needs
 
--- src/list.rt:175:1
 returns-2 : tie.Need-returns-2
-returns-2 c = elements.text-written ((c .before .before .before .before .before .before .before .before .before .before .before .args) .text .now) ((c .before .before .before .before .before .before .before .before .before .before .before .args) .words .now) ((c .before .before .before .before .before .before .before .before .before .before .before .args) .e) ((c .before .before .before .before .before .x) .given .1) ((c .before .before .write-text) .ensures)
+returns-2 c =
+    let args = c .before .before .before .before .before .before .before .before .before .before .before .args in
+    let x = c .before .before .before .before .before .x in
+    let write-text = c .before .before .write-text in
+    elements.text-written (args .text .now) (args .words .now) (args .e) (x .given .1) (write-text .ensures)
 
--- src/list.rt:175:1
 same-length-2 : tie.Need-same-length-2
 same-length-2 c = search needs
 
--- src/list.rt:175:1
 returns-3 : tie.Need-returns-3
-returns-3 c = elements.comment-written ((c .before .before .before .before .before .before .before .before .before .before .before .args) .text .now) ((c .before .before .before .before .before .before .before .before .before .before .before .args) .words .now) ((c .before .before .before .before .before .before .before .before .before .before .before .args) .e) ((c .before .before .before .before .before .x2) .given .1) ((c .before .before .write-comment) .ensures)
+returns-3 c =
+    let args = c .before .before .before .before .before .before .before .before .before .before .before .args in
+    let x2 = c .before .before .before .before .before .x2 in
+    let write-comment = c .before .before .write-comment in
+    elements.comment-written (args .text .now) (args .words .now) (args .e) (x2 .given .1) (write-comment .ensures)
 
--- src/list.rt:175:1
 same-length-3 : tie.Need-same-length-3
 same-length-3 c = search needs
 
--- src/list.rt:175:1
 returns-4 : tie.Need-returns-4
-returns-4 c = elements.expr-written ((c .before .before .before .before .before .before .before .before .before .before .before .before .before .before .before .before .args) .text .now) ((c .before .before .before .before .before .before .before .before .before .before .before .before .before .before .before .before .args) .words .now) ((c .before .before .before .before .before .before .before .before .before .before .before .before .before .before .before .before .args) .e) (omega (arith, (c .before .before .before .before .before .before .before .before .before .before .before .before .before .before .before .before .good) .0 .0)) ((c .before .before .write-expression) .ensures) ((c .before .before .before .before .before .before .before .before .before .before .x3) .given .1) ((c .before .before .before .before .before .before .put-bytes) .ensures)
+returns-4 c =
+    let args = c .before .before .before .before .before .before .before .before .before .before .before .before .before .before .before .before .args in
+    let good = c .before .before .before .before .before .before .before .before .before .before .before .before .before .before .before .before .good in
+    let x3 = c .before .before .before .before .before .before .before .before .before .before .x3 in
+    let put-bytes = c .before .before .before .before .before .before .put-bytes in
+    let write-expression = c .before .before .write-expression in
+    elements.expr-written (args .text .now) (args .words .now) (args .e) (omega (arith, good .0 .0)) (write-expression .ensures) (x3 .given .1) (put-bytes .ensures)
 
--- src/list.rt:175:1
 same-length-4 : tie.Need-same-length-4
 same-length-4 c = search needs
 
--- src/list.rt:175:1
 returns-5 : tie.Need-returns-5
-returns-5 c = elements.html-written ((c .before .before .before .before .before .before .before .before .before .before .before .before .before .before .before .before .args) .text .now) ((c .before .before .before .before .before .before .before .before .before .before .before .before .before .before .before .before .args) .words .now) ((c .before .before .before .before .before .before .before .before .before .before .before .before .before .before .before .before .args) .e) (omega (arith, (c .before .before .before .before .before .before .before .before .before .before .before .before .before .before .before .before .good) .0 .0)) ((c .before .before .write-expression2) .ensures) ((c .before .before .before .before .before .before .before .before .before .before .x4) .given .1) ((c .before .before .before .before .before .before .put-bytes2) .ensures)
+returns-5 c =
+    let args = c .before .before .before .before .before .before .before .before .before .before .before .before .before .before .before .before .args in
+    let good = c .before .before .before .before .before .before .before .before .before .before .before .before .before .before .before .before .good in
+    let x4 = c .before .before .before .before .before .before .before .before .before .before .x4 in
+    let put-bytes2 = c .before .before .before .before .before .before .put-bytes2 in
+    let write-expression2 = c .before .before .write-expression2 in
+    elements.html-written (args .text .now) (args .words .now) (args .e) (omega (arith, good .0 .0)) (write-expression2 .ensures) (x4 .given .1) (put-bytes2 .ensures)
 
--- src/list.rt:175:1
 same-length-5 : tie.Need-same-length-5
 same-length-5 c = search needs
 
--- src/list.rt:175:1
 returns-6 : tie.Need-returns-6
-returns-6 c = elements.block-written ((c .before .before .before .before .before .before .before .before .before .before .before .args) .text .now) ((c .before .before .before .before .before .before .before .before .before .before .before .args) .words .now) ((c .before .before .before .before .before .before .before .before .before .before .before .args) .e) ((c .before .before .before .before .before .x5) .given .1) ((c .before .before .write-block) .ensures)
+returns-6 c =
+    let args = c .before .before .before .before .before .before .before .before .before .before .before .args in
+    let x5 = c .before .before .before .before .before .x5 in
+    let write-block = c .before .before .write-block in
+    elements.block-written (args .text .now) (args .words .now) (args .e) (x5 .given .1) (write-block .ensures)
 
--- src/list.rt:175:1
 same-length-6 : tie.Need-same-length-6
 same-length-6 c = search needs
 
--- src/list.rt:175:1
 returns-7 : tie.Need-returns-7
-returns-7 c = elements.decor-written ((c .before .before .before .before .before .before .before .before .before .before .before .before .before .before .before .before .before .before .before .before .before .args) .text .now) ((c .before .before .before .before .before .before .before .before .before .before .before .before .before .before .before .before .before .before .before .before .before .args) .words .now) ((c .before .before .before .before .before .before .before .before .before .before .before .before .before .before .before .before .before .before .before .before .before .args) .e) (omega (arith, (c .before .before .before .before .before .before .before .before .before .before .before .before .before .before .before .before .before .before .before .before .before .good) .0 .0)) ((c .before .before .before .before .before .before .before .write-decorated) .ensures) ((c .before .before .before .before .before .before .before .before .before .before .before .before .before .before .before .x6) .given .1) ((c .before .before .before .before .before .before .before .before .before .before .before .put-bytes3) .ensures) ((c .before .before .put-bytes4) .ensures)
+returns-7 c =
+    let args = c .before .before .before .before .before .before .before .before .before .before .before .before .before .before .before .before .before .before .before .before .before .args in
+    let good = c .before .before .before .before .before .before .before .before .before .before .before .before .before .before .before .before .before .before .before .before .before .good in
+    let x6 = c .before .before .before .before .before .before .before .before .before .before .before .before .before .before .before .x6 in
+    let put-bytes3 = c .before .before .before .before .before .before .before .before .before .before .before .put-bytes3 in
+    let write-decorated = c .before .before .before .before .before .before .before .write-decorated in
+    let put-bytes4 = c .before .before .put-bytes4 in
+    elements.decor-written (args .text .now) (args .words .now) (args .e) (omega (arith, good .0 .0)) (write-decorated .ensures) (x6 .given .1) (put-bytes3 .ensures) (put-bytes4 .ensures)
 
--- src/list.rt:175:1
 same-length-7 : tie.Need-same-length-7
 same-length-7 c = search needs
 
--- src/list.rt:175:1
 returns-8 : tie.Need-returns-8
-returns-8 c = elements.partial-written ((c .before .before .before .before .before .before .before .before .before .before .before .before .before .before .before .before .before .before .before .before .before .args) .text .now) ((c .before .before .before .before .before .before .before .before .before .before .before .before .before .before .before .before .before .before .before .before .before .args) .words .now) ((c .before .before .before .before .before .before .before .before .before .before .before .before .before .before .before .before .before .before .before .before .before .args) .e) (omega (arith, (c .before .before .before .before .before .before .before .before .before .before .before .before .before .before .before .before .before .before .before .before .before .good) .0 .0)) ((c .before .before .before .before .before .before .before .write-decorated2) .ensures) ((c .before .before .before .before .before .before .before .before .before .before .before .before .before .before .before .x7) .given .1) ((c .before .before .before .before .before .before .before .before .before .before .before .put-bytes5) .ensures) ((c .before .before .put-bytes6) .ensures)
+returns-8 c =
+    let args = c .before .before .before .before .before .before .before .before .before .before .before .before .before .before .before .before .before .before .before .before .before .args in
+    let good = c .before .before .before .before .before .before .before .before .before .before .before .before .before .before .before .before .before .before .before .before .before .good in
+    let x7 = c .before .before .before .before .before .before .before .before .before .before .before .before .before .before .before .x7 in
+    let put-bytes5 = c .before .before .before .before .before .before .before .before .before .before .before .put-bytes5 in
+    let write-decorated2 = c .before .before .before .before .before .before .before .write-decorated2 in
+    let put-bytes6 = c .before .before .put-bytes6 in
+    elements.partial-written (args .text .now) (args .words .now) (args .e) (omega (arith, good .0 .0)) (write-decorated2 .ensures) (x7 .given .1) (put-bytes5 .ensures) (put-bytes6 .ensures)
 
--- src/list.rt:175:1
 same-length-8 : tie.Need-same-length-8
 same-length-8 c = search needs
 
--- src/list.rt:175:1
 returns-9 : tie.Need-returns-9
-returns-9 c = elements.decor-block-written ((c .before .before .before .before .before .before .before .before .before .before .before .before .before .before .before .before .before .before .before .before .before .args) .text .now) ((c .before .before .before .before .before .before .before .before .before .before .before .before .before .before .before .before .before .before .before .before .before .args) .words .now) ((c .before .before .before .before .before .before .before .before .before .before .before .before .before .before .before .before .before .before .before .before .before .args) .e) (omega (arith, (c .before .before .before .before .before .before .before .before .before .before .before .before .before .before .before .before .before .before .before .before .before .good) .0 .0)) ((c .before .before .before .before .before .before .before .write-decorated3) .ensures) ((c .before .before .before .before .before .before .before .before .before .before .before .before .before .before .before .x8) .given .1) ((c .before .before .before .before .before .before .before .before .before .before .before .put-bytes7) .ensures) ((c .before .before .put-bytes8) .ensures)
+returns-9 c =
+    let args = c .before .before .before .before .before .before .before .before .before .before .before .before .before .before .before .before .before .before .before .before .before .args in
+    let good = c .before .before .before .before .before .before .before .before .before .before .before .before .before .before .before .before .before .before .before .before .before .good in
+    let x8 = c .before .before .before .before .before .before .before .before .before .before .before .before .before .before .before .x8 in
+    let put-bytes7 = c .before .before .before .before .before .before .before .before .before .before .before .put-bytes7 in
+    let write-decorated3 = c .before .before .before .before .before .before .before .write-decorated3 in
+    let put-bytes8 = c .before .before .put-bytes8 in
+    elements.decor-block-written (args .text .now) (args .words .now) (args .e) (omega (arith, good .0 .0)) (write-decorated3 .ensures) (x8 .given .1) (put-bytes7 .ensures) (put-bytes8 .ensures)
 
--- src/list.rt:175:1
 same-length-9 : tie.Need-same-length-9
 same-length-9 c = search needs
 
--- src/list.rt:175:1
 returns-10 : tie.Need-returns-10
-returns-10 c = elements.partial-block-written ((c .before .before .before .before .before .before .before .before .before .before .before .before .before .before .before .before .before .before .before .before .before .args) .text .now) ((c .before .before .before .before .before .before .before .before .before .before .before .before .before .before .before .before .before .before .before .before .before .args) .words .now) ((c .before .before .before .before .before .before .before .before .before .before .before .before .before .before .before .before .before .before .before .before .before .args) .e) (omega (arith, (c .before .before .before .before .before .before .before .before .before .before .before .before .before .before .before .before .before .before .before .before .before .good) .0 .0)) ((c .before .before .before .before .before .before .before .write-decorated4) .ensures) ((c .before .before .before .before .before .before .before .before .before .before .before .before .before .before .before .x9) .given .1) ((c .before .before .before .before .before .before .before .before .before .before .before .put-bytes9) .ensures) ((c .before .before .put-bytes10) .ensures)
+returns-10 c =
+    let args = c .before .before .before .before .before .before .before .before .before .before .before .before .before .before .before .before .before .before .before .before .before .args in
+    let good = c .before .before .before .before .before .before .before .before .before .before .before .before .before .before .before .before .before .before .before .before .before .good in
+    let x9 = c .before .before .before .before .before .before .before .before .before .before .before .before .before .before .before .x9 in
+    let put-bytes9 = c .before .before .before .before .before .before .before .before .before .before .before .put-bytes9 in
+    let write-decorated4 = c .before .before .before .before .before .before .before .write-decorated4 in
+    let put-bytes10 = c .before .before .put-bytes10 in
+    elements.partial-block-written (args .text .now) (args .words .now) (args .e) (omega (arith, good .0 .0)) (write-decorated4 .ensures) (x9 .given .1) (put-bytes9 .ensures) (put-bytes10 .ensures)
 
 pub write-element-spec : {M : Type 1} → statement M
 write-element-spec =
