@@ -254,11 +254,11 @@ module _ (text : Bytes) (words : List ℕ) (o : Options) (v : View) (s : Span) (
         let back : trimOf (x .«omit_pre_ws») (cutOf k (standalone text (o .«is_partial») s) (o .«prevent_indent»)) ≡ b = ap (λ z. trimOf (x .«omit_pre_ws») (cutOf k z (o .«prevent_indent»))) (sym a) ∙ ap (trimOf (x .«omit_pre_ws»)) (sym (c .means k u)) ∙ sym d in
         let lines : lineOf k (standalone text (o .«is_partial») s) l ≡ line = ap (λ z. lineOf k z l) (sym a) ∙ sym (f .means k u) in
         ap (λ z. withEndPos (s .end) (tagEffect text (o .«prevent_indent») (o .«is_partial») k s read z))
-            (trimmed-as text (o .«prevent_indent») (o .«is_partial») s k st read (behind text words o v s here g gap new i j h)
-            ∙ state-as refl (ap (λ z. trimLast (backTrim z) t₁) back) refl refl refl lines)
+        (trimmed-as text (o .«prevent_indent») (o .«is_partial») s k st read (behind text words o v s here g gap new i j h)
+        ∙ state-as refl (ap (λ z. trimLast (backTrim z) t₁) back) refl refl refl lines)
         ∙ acts text words (o .«prevent_indent») (o .«is_partial») s x (h .place) (r ∙ ap (λ z. z && not (x .«omit_pre_ws»)) a) q
-            (marksBehind sg (s .end) (x .«omit_pro_ws») line) (s .end) refl (stageMeans g) (st .stage) (trimLast (backTrim b) t₁) (st .outer) (st .endPos) (st .endPos) (st .omitProWs) (st .trimLineRequired)
-            k (w .means k u) (ready h g e (backTrim b) i k (nested-as h k u))
+        (marksBehind sg (s .end) (x .«omit_pro_ws») line) (s .end) refl (stageMeans g) (st .stage) (trimLast (backTrim b) t₁) (st .outer) (st .endPos) (st .endPos) (st .omitProWs) (st .trimLineRequired)
+        k (w .means k u) (ready h g e (backTrim b) i k (nested-as h k u))
         ∙ ap (λ z. withMarks (marksBehind sg (s .end) (x .«omit_pro_ws») line) (actEffect text words z (state (st .stage) (trimLast (backTrim b) t₁) (st .outer) (st .endPos) (st .omitProWs) (st .trimLineRequired)))) (sym (t .means k u))
         ∙ ap (λ z. withMarks (marksBehind sg (s .end) (x .«omit_pro_ws») line) (actEffect text words act z)) (sym (gap-state gap e b st))
 

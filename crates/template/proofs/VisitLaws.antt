@@ -110,9 +110,13 @@ module _ (text : Bytes) (words : List ℕ) (o : Options) (v : View) (s : Span) (
 
   pub template-step : (gap : Bool) (x : Element) → s .tag ≡ 1
       → KindIs text words o v s gap here (Vis.Step (record {
-        gapped = false; gap = x; back = Back.Kept; act = A.Skip;
+        gapped = false;
+        gap = x;
+        back = Back.Kept;
+        act = A.Skip;
         marks = record { stage = G.Filling; «end_pos» = m .«end_pos»; started = m .started; «omit_pro_ws» = m .«omit_pro_ws»; «trim_line_required» = m .«trim_line_required» };
-        here = v .here; next = s .number + 1;
+        here = v .here;
+        next = s .number + 1;
       }))
   unfolding K.kinds plainStep applied withMarks
   template-step gap x e = record {
@@ -141,7 +145,13 @@ module _ (text : Bytes) (words : List ℕ) (o : Options) (v : View) (s : Span) (
 
     pub skipped-step : kindOf (s .tag) ≡ plain K.skipped
         → KindIs text words o v s gap here (Vis.Step (record {
-          gapped = gap; gap = x; back = Back.Kept; act = A.Skip; marks = marksBehind g (s .end) (m .«omit_pro_ws») l; here = here; next = s .number + 1;
+          gapped = gap;
+          gap = x;
+          back = Back.Kept;
+          act = A.Skip;
+          marks = marksBehind g (s .end) (m .«omit_pro_ws») l;
+          here = here;
+          next = s .number + 1;
         }))
     unfolding plainStep applied withMarks
     skipped-step e = record {
@@ -170,10 +180,10 @@ module _ (text : Bytes) (words : List ℕ) (o : Options) (v : View) (s : Span) (
           ap (λ z. withEndPos (s .end) (addItem text s (T.comment t) (processStandalone (standalone text (o .«is_partial») s) true z))) (behind h)
           ∙ ap (λ z. withEndPos (s .end) (addItem text s (T.comment t) z)) (processed (standalone text (o .«is_partial») s) true (stageMeans g) t₁ (st .outer) (st .endPos) (st .omitProWs) l)
           ∙ state-as refl
-              (ap (λ z. addTo z (if (standalone text (o .«is_partial») s && true) (trimLast trimEndBlanks t₁) t₁)) (sym q)
-              ∙ ap (λ z. addTo (leafMeans text words y) (if z (trimLast trimEndBlanks t₁) t₁)) (and-yes (standalone text (o .«is_partial») s) ∙ sym a)
-              ∙ ap (addTo (leafMeans text words y)) (trims false alone t₁))
-              (sym (gap-outer text words gap x st)) refl (sym (h .tells .marks .omitProWs)) (sym a)
+          (ap (λ z. addTo z (if (standalone text (o .«is_partial») s && true) (trimLast trimEndBlanks t₁) t₁)) (sym q)
+          ∙ ap (λ z. addTo (leafMeans text words y) (if z (trimLast trimEndBlanks t₁) t₁)) (and-yes (standalone text (o .«is_partial») s) ∙ sym a)
+          ∙ ap (addTo (leafMeans text words y)) (trims false alone t₁))
+          (sym (gap-outer text words gap x st)) refl (sym (h .tells .marks .omitProWs)) (sym a)
 
       comment-is : (k : Plain) (t : Bytes) → kindOf (s .tag) ≡ plain k → ((st : State) → faultyEscape text words k st s ≡ false)
           → ((st : State) → plainStep text words (o .«is_partial») k st s ≡ withEndPos (s .end) (addComment text (o .«is_partial») t st s))

@@ -325,15 +325,7 @@ fn trim_of(left: bool, cut: bool) -> Back
     Back::Kept
 }
 
-fn comment(
-    text: &[u8],
-    words: &[u32],
-    o: Options,
-    v: View,
-    s: Span,
-    gap: bool,
-    here: Here,
-) -> Visit
+fn comment(text: &[u8], words: &[u32], o: Options, v: View, s: Span, gap: bool, here: Here) -> Visit
     requires { ⌜ 19 ≤ s .tag ⌝ ∗ ⌜ s .tag ≤ 20 ⌝ ∗ ⌜ s .number < maxSpans ⌝ }
     ensures { λ r. ⌜ KindIs (now (text .entry)) (now (words .entry)) o v s gap here r ⌝ }
 {
@@ -401,8 +393,14 @@ fn begin_of(s: Span, x: TagExpression, place: Place, mark: bool) -> Act
     match tag {
         5 => Act::Begin(h, Opened::Helper),
         6 => Act::Begin(h, Opened::Raw),
-        7 => Act::Begin(Element::new(TemplateElement::DecoratorBlock(d), place), Opened::Decorator),
-        8 => Act::Begin(Element::new(TemplateElement::PartialBlock(d), place), Opened::Partial),
+        7 => Act::Begin(
+            Element::new(TemplateElement::DecoratorBlock(d), place),
+            Opened::Decorator,
+        ),
+        8 => Act::Begin(
+            Element::new(TemplateElement::PartialBlock(d), place),
+            Opened::Partial,
+        ),
         9 => Act::Else,
         _ => Act::Chain(h),
     }
@@ -502,15 +500,7 @@ fn step_of(
 }
 
 // 8, 9 and 12 as met, open blocks last; 10, 11.
-fn tagged(
-    text: &[u8],
-    words: &[u32],
-    o: Options,
-    v: View,
-    s: Span,
-    gap: bool,
-    here: Here,
-) -> Visit
+fn tagged(text: &[u8], words: &[u32], o: Options, v: View, s: Span, gap: bool, here: Here) -> Visit
     requires { ⌜ 5 ≤ s .tag ⌝ ∗ ⌜ s .tag ≤ 18 ⌝ ∗ ⌜ s .number < spanCount (now words) ⌝ }
     ensures { λ r. ⌜ KindIs (now (text .entry)) (now (words .entry)) o v s gap here r ⌝ }
 {
