@@ -87,7 +87,7 @@ fn refused(number: u32, place: usize) -> Checked
 }
 
 // 1 to 5, in order.
-pub fn checks(text: &[u8], words: &[u32], options: u32) -> Checked
+pub(crate) fn checks(text: &[u8], words: &[u32], options: u32) -> Checked
     ensures { λ r. ⌜ CheckedIs (now (text .entry)) (now (words .entry)) options r ⌝ }
 {
     if 3 < options {
@@ -114,7 +114,7 @@ pub fn checks(text: &[u8], words: &[u32], options: u32) -> Checked
 }
 
 // A gap stands before the span and is kept.
-pub fn kept_gap(m: Marks, s: Span) -> bool
+pub(crate) fn kept_gap(m: Marks, s: Span) -> bool
     ensures { λ r. ⌜ KeptIs m s r ⌝ }
 {
     if s.start == m.end_pos {
@@ -200,7 +200,7 @@ fn may_end(g: Stage, raw: bool, gap: bool) -> bool
 }
 
 // The span has its place in the nesting.
-pub fn nests(g: Stage, o: Opened, inverted: bool, tag: u32, gap: bool) -> bool
+pub(crate) fn nests(g: Stage, o: Opened, inverted: bool, tag: u32, gap: bool) -> bool
     ensures { λ r. ⌜ NestsIs g o inverted tag gap r ⌝ }
 {
     let filling = is_filling(g);
@@ -233,7 +233,13 @@ fn bad_escape(text: &[u8], least: usize, x: Span) -> bool
 }
 
 // 13: one of the escapes listed from number `from` on, up to one ending past the limit, is bad.
-pub fn bad_escapes(text: &[u8], words: &[u32], start: usize, limit: usize, from: usize) -> bool
+pub(crate) fn bad_escapes(
+    text: &[u8],
+    words: &[u32],
+    start: usize,
+    limit: usize,
+    from: usize,
+) -> bool
     ensures { λ r. ⌜ r ≡ badEscapes (now (text .entry)) start (escapesTo limit (escapesFrom (now (words .entry)) from)) ⌝ }
 {
     let mut least = start;
@@ -254,7 +260,7 @@ pub fn bad_escapes(text: &[u8], words: &[u32], start: usize, limit: usize, from:
     }
 }
 
-pub fn fault_number(f: Fault) -> u32
+pub(crate) fn fault_number(f: Fault) -> u32
     ensures { λ r. ⌜ r ≡ faultNumber (faultMeans f) ⌝ }
 {
     match f {
@@ -266,7 +272,7 @@ pub fn fault_number(f: Fault) -> u32
 }
 
 // At the walked span, or at the count where the list ends too early.
-pub fn fault_place(count: usize, s: Span, f: Fault) -> usize
+pub(crate) fn fault_place(count: usize, s: Span, f: Fault) -> usize
     ensures { λ r. ⌜ r ≡ faultPlace count s (faultMeans f) ⌝ }
 {
     match f {
@@ -278,7 +284,7 @@ pub fn fault_place(count: usize, s: Span, f: Fault) -> usize
 }
 
 // 12: one more open block or else-if is too many.
-pub fn too_many_open(tag: u32, count: usize) -> bool
+pub(crate) fn too_many_open(tag: u32, count: usize) -> bool
     ensures { λ r. ⌜ TooManyIs tag count r ⌝ }
 {
     match tag {
@@ -317,7 +323,7 @@ fn is_empty_name(text: &[u8], a: AsName) -> bool
 }
 
 // 10: the end of a helper or raw block has another name.
-pub fn helper_name_differs(text: &[u8], tag: u32, opened: AsName, end: AsName) -> bool
+pub(crate) fn helper_name_differs(text: &[u8], tag: u32, opened: AsName, end: AsName) -> bool
     ensures { λ r. ⌜ HelperDiffersIs (now (text .entry)) tag opened end r ⌝ }
 {
     match tag {
@@ -327,7 +333,7 @@ pub fn helper_name_differs(text: &[u8], tag: u32, opened: AsName, end: AsName) -
 }
 
 // 11: the end of a decorator or partial block has another name, and not an empty one.
-pub fn decorator_name_differs(text: &[u8], tag: u32, opened: AsName, end: AsName) -> bool
+pub(crate) fn decorator_name_differs(text: &[u8], tag: u32, opened: AsName, end: AsName) -> bool
     ensures { λ r. ⌜ DecoratorDiffersIs (now (text .entry)) tag opened end r ⌝ }
 {
     let same = same_name(text, opened, end);
