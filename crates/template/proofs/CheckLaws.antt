@@ -1,8 +1,8 @@
 -- 1 to 5: a span by its questions in turn, the search for the first bad one, and what each way out of the checks says. Assumes nothing.
 use Prim.Native.Nat.{ℕ, _+_, _%_, _≤_, _<_}
 use native.Mathlib.Omega.{arith}
-use mathlib.Core.Path.{_≡_, refl, sym, ap, subst, _∙_}
-use mathlib.Core.List.{List, [], _∷_}
+use mathlib.Core.Path.{_≡_, sym, ap, subst, _∙_}
+use mathlib.Core.List.{List}
 use mathlib.Core.Bool.{Bool, true, false, _||_, not}
 use mathlib.Core.Option.{none, some}
 use lib.ListN.{length}
@@ -12,11 +12,9 @@ use Rattle.support.specs.Utf8.{charLength, validLength, isCharBoundary}
 use Rattle.support.proofs.Pieces.{leading-le}
 use Rattle.json_path.specs.Span.{Span, spanCount, spanAt, allFrom}
 use Rattle.json_path.proofs.Spans.{all-end, all-next}
-use Rattle.template.specs.Result.{Result, accepted, refused}
+use Rattle.template.specs.Result.{Result, refused}
 use Rattle.template.specs.Checks.{badSpan, firstBad, badSpanOf, checks}
-use Rattle.template.specs.Element.{Good}
 use Rattle.template.specs.Checked.{FirstBadIs, CheckedIs}
-use Rattle.template.specs.declared.reason.Refusal.{Refusal}
 use Rattle.template.specs.declared.reason.Checked.{Checked}
 use Rattle.template.specs.declared.reason.Checked.the-variants as C
 

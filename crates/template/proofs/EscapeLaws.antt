@@ -1,15 +1,15 @@
 -- 13: the search for a bad escape, escape by escape. What is bad from the first on is bad from the turn's escape on. Assumes nothing.
-use Prim.Native.Nat.{ℕ, suc, _+_, _≤_, _<_}
+use Prim.Native.Nat.{ℕ, _+_, _≤_, _<_}
 use native.Mathlib.Omega.{arith}
 use native.Mathlib.Numerals.{add-one}
 use mathlib.Core.Path.{_≡_, refl, sym, ap, _∙_}
-use mathlib.Core.List.{List, [], _∷_}
+use mathlib.Core.List.{List, []}
 use mathlib.Core.Bool.{Bool, true, false, _||_, not}
 use lib.Dec.{ltb, eqb}
 use lib.ListN.{length, getD, List·getD-eq-default}
 use borrow.Author.Tests.{lt-ltb, le-ltb, ltb-true, ltb-false, eq-eqb, ne-eqb, eqb-true}
 use Rattle.support.specs.Bytes.{Bytes}
-use Rattle.json_path.specs.Span.{Span, spanCount, escapesFrom}
+use Rattle.json_path.specs.Span.{Span, escapesFrom}
 use Rattle.json_path.specs.Answers.{Escapes}
 use Rattle.template.specs.Escapes.{escapesTo, badEscape, badEscapes}
 

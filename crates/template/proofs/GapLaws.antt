@@ -1,44 +1,36 @@
 -- A step's gap and places over plain values: what the code's element and marks make of a state is what the specification makes of it.
-use Prim.Native.Nat.{ℕ, suc, _+_, _-_, _≤_, _<_}
+use Prim.Native.Nat.{ℕ, _+_, _-_, _≤_}
 use native.Mathlib.Omega.{arith}
 use mathlib.Core.Path.{_≡_, refl, sym, ap, subst, _∙_}
-use mathlib.Core.List.{List, [], _∷_, reverse}
-use mathlib.Core.Bool.{Bool, true, false, _&&_, _||_, not}
-use mathlib.Core.Option.{Option, none, some}
-use lib.Dec.{eqb}
-use lib.ListN.{length, take, drop, length-take}
+use mathlib.Core.List.{List}
+use mathlib.Core.Bool.{Bool, true, false, _&&_, not}
+use mathlib.Core.Option.{Option, some}
+use lib.ListN.{take}
 use borrow.Author.Tests.{ne-eqb}
 use Rattle.support.specs.Bytes.{Bytes, if, part}
-use Rattle.support.specs.Leading.{leading}
 use Rattle.support.specs.Utf8.{isCharBoundary}
-use Rattle.support.specs.WhiteSpace.{whiteLengthBack, trimStart, trimEnd}
-use Rattle.support.specs.TextRules.{blankLength, trimEndBlanks}
-use Rattle.support.specs.Position.{Place, at, linefeeds, charactersSince, placeAfter, placeAt, placeOf}
+use Rattle.support.specs.WhiteSpace.{trimStart}
+use Rattle.support.specs.Position.{Place, at, linefeeds, placeAfter, placeAt, placeOf}
 use Rattle.support.specs.declared.position.Place as code
-use Rattle.json_path.specs.Span.{Span, spanCount, escapesFrom}
+use Rattle.json_path.specs.Span.{Span, spanCount}
 use Rattle.json_path.proofs.Spans.{escapes-end}
 use Rattle.listing.specs.Tree as T
-use Rattle.listing.specs.Reading.{Elem, item, block, wrap}
+use Rattle.listing.specs.Reading.{item}
 use Rattle.template.specs.State as S
-use Rattle.template.specs.State.{Level, level, State, state, prevEnd, owner, withStage, withTop, withTrimLine, addTo, addElem, trimItem, trimElem, trimLast}
+use Rattle.template.specs.State.{Level, State, state, prevEnd, addTo}
 use Rattle.template.specs.Nests.{keptGap}
 use Rattle.template.specs.Escapes.{escapesTo, badEscapes, unescaped}
-use Rattle.template.specs.Step.{trimLine, trimMarked, trimFront, afterGap, takeGap, addItem}
-use Rattle.template.specs.Element.{frontTrim, backTrim, placeMeans, rawMeans, rawEscapes, itemMeans, RawGood, Role, leaf, roleOf, Sound, newElement}
-use Rattle.template.specs.Store.{Is}
-use Rattle.template.specs.Visit.{stageMeans, endMeans, withMarks, MarksAre, HereIs, Tells, leafMeans, gapEffect, trimEffect, Made, GapMade}
-use Rattle.template.specs.Visiting.{SpanFits, Visited, frontOf, rawFront, gapText, trimOf}
+use Rattle.template.specs.Step.{trimLine, trimMarked, trimFront, afterGap, takeGap}
+use Rattle.template.specs.Element.{frontTrim, placeMeans, rawMeans, itemMeans, RawGood, leaf, roleOf, Sound, newElement}
+use Rattle.template.specs.Visit.{stageMeans, MarksAre, HereIs, leafMeans, gapEffect, Made, GapMade}
+use Rattle.template.specs.Visiting.{SpanFits, frontOf, rawFront, gapText}
 use Rattle.template.specs.declared.element.Front.the-variants as Front
-use Rattle.template.specs.declared.element.Back.{Back}
-use Rattle.template.specs.declared.element.Back.the-variants as Back
-use Rattle.template.specs.declared.element.RawString.{RawString}
 use Rattle.template.specs.declared.element.TemplateElement.{TemplateElement}
 use Rattle.template.specs.declared.element.TemplateElement.the-variants as E
 use Rattle.template.specs.declared.element.Element.{Element}
 use Rattle.template.specs.declared.frame.Stage.{Stage}
 use Rattle.template.specs.declared.frame.Marks.{Marks}
 use Rattle.template.specs.declared.visit.Here.{Here}
-use Rattle.template.specs.declared.visit.View.{View}
 
 -- ---- places
 
@@ -88,7 +80,7 @@ and-no : (b : Bool) → (b && false) ≡ false
 and-no true = refl
 and-no false = refl
 
-and-yes : (b : Bool) → (b && true) ≡ b
+pub and-yes : (b : Bool) → (b && true) ≡ b
 and-yes true = refl
 and-yes false = refl
 

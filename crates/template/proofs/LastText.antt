@@ -1,10 +1,10 @@
 -- The last text's trims: trimming nothing changes nothing, and blanks are no longer there behind a full trim.
-use Prim.Native.Nat.{ℕ, _-_, _≤_}
+use Prim.Native.Nat.{_-_, _≤_}
 use native.Mathlib.Omega.{arith}
 use mathlib.Core.Path.{_≡_, refl, sym, ap, _∙_}
 use mathlib.Core.List.{[], _∷_, reverse}
 use mathlib.Core.Bool.{Bool, true, false}
-use lib.ListN.{length, take, length-take}
+use lib.ListN.{length, length-take}
 use lib.Seq.{take-all}
 use Rattle.support.specs.Bytes.{Bytes, if}
 use Rattle.support.specs.Leading.{leading}

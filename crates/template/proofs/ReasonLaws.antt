@@ -1,6 +1,6 @@
 -- The questions about a walked span, answer by answer: what the code finds of its own values is what the specification asks of every state
 -- that they tell of. By cases on the kind of the open body, and on the kind of the tag by ranges (TagKinds).
-use Prim.Native.Nat.{ℕ, suc, _+_, _≤_, _<_}
+use Prim.Native.Nat.{ℕ, suc, _≤_, _<_}
 use native.Mathlib.Omega.{arith}
 use mathlib.Core.Path.{_≡_, refl, sym, ap, subst, _∙_}
 use mathlib.Core.List.{[], _∷_}
@@ -17,18 +17,18 @@ use Rattle.expression.specs.Answers.{asNameMeans}
 use Rattle.expression.specs.declared.parameter.AsName.{AsName}
 use Rattle.expression.specs.declared.parameter.AsName.the-variants as AsName
 use Rattle.listing.specs.Tree as T
-use Rattle.template.specs.Kind.{BlockKind, helperBlock, rawBlock, decoratorBlock, partialBlock, Plain, skipped, template, rawText, rawBlockText, commentCompact, comment, Tag, blockStart, invertTag, invertChainTag, expression, htmlExpression, decoratorExpression, partialExpression, blockEnd, Kind, plain, tagged, kinds, kindOf}
+use Rattle.template.specs.Kind.{BlockKind, helperBlock, rawBlock, decoratorBlock, partialBlock, skipped, blockEnd, Kind, plain, tagged, kinds, kindOf}
 use Rattle.template.specs.State as S
-use Rattle.template.specs.State.{Owner, State, owner, openedName, openCount, prevEnd}
-use Rattle.template.specs.Nests.{hasGap, keptGap, isFilling, isWaiting, isRaw, takesElse, isOfKind, isDecoratorBlock, mayEnd, plainNests, tagNests, nests}
-use Rattle.template.specs.Refusal.{maxOpen, oneTooMany, tooManyOpen, sameName, isEmptyName, closesName, helperNameDiffers, decoratorNameDiffers}
-use Rattle.template.specs.Visit.{stageMeans, MarksAre, OpenedIs}
+use Rattle.template.specs.State.{Owner, State, owner, openCount}
+use Rattle.template.specs.Nests.{keptGap, isFilling, isWaiting, isRaw, takesElse, isOfKind, mayEnd, plainNests, tagNests, nests}
+use Rattle.template.specs.Refusal.{oneTooMany, tooManyOpen, sameName, isEmptyName, closesName, helperNameDiffers, decoratorNameDiffers}
+use Rattle.template.specs.Visit.{stageMeans, OpenedIs}
 use Rattle.template.specs.Asked.{KeptIs, RawIs, TakesIs, endTag, OfKindIs, NestsIs, TooManyIs, NamesAre, HelperDiffersIs, DecoratorDiffersIs}
 use Rattle.template.specs.declared.frame.Opened.{Opened}
 use Rattle.template.specs.declared.frame.Opened.the-variants as O
 use Rattle.template.specs.declared.frame.Stage.{Stage}
 use Rattle.template.specs.declared.frame.Marks.{Marks}
-use Rattle.template.proofs.TagKinds.{either, kind-skipped, kind-low, kind-start, kind-else, kind-leaf, kind-end, kind-comment, kind-late, kind-before, kind-behind}
+use Rattle.template.proofs.TagKinds.{either, kind-skipped, kind-low, kind-start, kind-else, kind-leaf, kind-comment, kind-late, kind-before, kind-behind}
 
 -- ---- the gap
 
@@ -321,19 +321,19 @@ neither true b = refl
 neither false b = refl
 
 module _ (text : Bytes) (t : ℕ) (opened end : AsName) where
-  abbrev helperOf : State → Expression → Kind → Bool
-  helperOf st x (plain k) = false
-  helperOf st x (tagged k) = helperNameDiffers k st x
+  abbrev helperAsked : State → Expression → Kind → Bool
+  helperAsked st x (plain k) = false
+  helperAsked st x (tagged k) = helperNameDiffers k st x
 
-  abbrev decoratorOf : State → Expression → Kind → Bool
-  decoratorOf st x (plain k) = false
-  decoratorOf st x (tagged k) = decoratorNameDiffers k st x
+  abbrev decoratorAsked : State → Expression → Kind → Bool
+  decoratorAsked st x (plain k) = false
+  decoratorAsked st x (tagged k) = decoratorNameDiffers k st x
 
-  helper-is : {r : Bool} → ((st : State) (x : Expression) → NamesAre text opened end st x → r ≡ helperOf st x (kindOf t)) → HelperDiffersIs text t opened end r
-  helper-is {r} q = record { means = λ k st x e c. subst (λ z. r ≡ helperOf st x z) e (q st x c) }
+  helper-is : {r : Bool} → ((st : State) (x : Expression) → NamesAre text opened end st x → r ≡ helperAsked st x (kindOf t)) → HelperDiffersIs text t opened end r
+  helper-is {r} q = record { means = λ k st x e c. subst (λ z. r ≡ helperAsked st x z) e (q st x c) }
 
-  decorator-is : {r : Bool} → ((st : State) (x : Expression) → NamesAre text opened end st x → r ≡ decoratorOf st x (kindOf t)) → DecoratorDiffersIs text t opened end r
-  decorator-is {r} q = record { means = λ k st x e c. subst (λ z. r ≡ decoratorOf st x z) e (q st x c) }
+  decorator-is : {r : Bool} → ((st : State) (x : Expression) → NamesAre text opened end st x → r ≡ decoratorAsked st x (kindOf t)) → DecoratorDiffersIs text t opened end r
+  decorator-is {r} q = record { means = λ k st x e c. subst (λ z. r ≡ decoratorAsked st x z) e (q st x c) }
 
   module _ {a : Bool} (same : a ≡ sameName (asNameMeans text opened) (asNameMeans text end)) where
     closes : (st : State) (x : Expression) → NamesAre text opened end st x → a ≡ closesName st x
@@ -343,32 +343,32 @@ module _ (text : Bytes) (t : ℕ) (opened end : AsName) where
     unfolding kinds
     helper-ends l u = helper-is (λ st x n.
         let q = ap not (closes st x n) in
-        either (λ m. not a ≡ helperOf st x (kindOf m)) t 15 l q (λ h. subst (λ m. not a ≡ helperOf st x (kindOf m)) (let z : 16 ≡ t = omega arith in z) q))
+        either (λ m. not a ≡ helperAsked st x (kindOf m)) t 15 l q (λ h. subst (λ m. not a ≡ helperAsked st x (kindOf m)) (let z : 16 ≡ t = omega arith in z) q))
 
     pub decorator-ends : {b c : Bool} → b ≡ isEmptyName (asNameMeans text end) → c ≡ (not a && not b) → 17 ≤ t → t ≤ 18 → DecoratorDiffersIs text t opened end c
     unfolding kinds
     decorator-ends {b} {c} e f l u = decorator-is (λ st x n.
         let q : c ≡ not (closesName st x || isEmptyName (nameOf (x .callOf))) = f ∙ neither a b ∙ cc (closes st x n, e, n .closes) in
-        either (λ m. c ≡ decoratorOf st x (kindOf m)) t 17 l q (λ h. subst (λ m. c ≡ decoratorOf st x (kindOf m)) (let z : 18 ≡ t = omega arith in z) q))
+        either (λ m. c ≡ decoratorAsked st x (kindOf m)) t 17 l q (λ h. subst (λ m. c ≡ decoratorAsked st x (kindOf m)) (let z : 18 ≡ t = omega arith in z) q))
 
   pub helper-low : t < 15 → HelperDiffersIs text t opened end false
-  helper-low h = helper-is (λ st x n. kind-before (λ z. false ≡ helperOf st x z) t h (λ k. refl) (λ k. refl) refl refl refl refl refl refl)
+  helper-low h = helper-is (λ st x n. kind-before (λ z. false ≡ helperAsked st x z) t h (λ k. refl) (λ k. refl) refl refl refl refl refl refl)
 
   pub helper-high : 16 < t → HelperDiffersIs text t opened end false
   unfolding kinds
   helper-high h = helper-is (λ st x n.
-      let P : ℕ → Type 0 = λ m. false ≡ helperOf st x (kindOf m) in
-      either P t 17 h refl (λ h. either P t 18 h refl (λ h. kind-late (λ z. false ≡ helperOf st x z) t h (λ k. refl))))
+      let P : ℕ → Type 0 = λ m. false ≡ helperAsked st x (kindOf m) in
+      either P t 17 h refl (λ h. either P t 18 h refl (λ h. kind-late (λ z. false ≡ helperAsked st x z) t h (λ k. refl))))
 
   pub decorator-low : t < 17 → DecoratorDiffersIs text t opened end false
   unfolding kinds
   decorator-low h = decorator-is (λ st x n. go (ltb t 15) refl st x)
     where
-      go : (b : Bool) → ltb t 15 ≡ b → (st : State) (x : Expression) → false ≡ decoratorOf st x (kindOf t)
-      go true e st x = kind-before (λ z. false ≡ decoratorOf st x z) t (ltb-true t 15 e) (λ k. refl) (λ k. refl) refl refl refl refl refl refl
+      go : (b : Bool) → ltb t 15 ≡ b → (st : State) (x : Expression) → false ≡ decoratorAsked st x (kindOf t)
+      go true e st x = kind-before (λ z. false ≡ decoratorAsked st x z) t (ltb-true t 15 e) (λ k. refl) (λ k. refl) refl refl refl refl refl refl
       go false e st x =
-          let P : ℕ → Type 0 = λ m. false ≡ decoratorOf st x (kindOf m) in
+          let P : ℕ → Type 0 = λ m. false ≡ decoratorAsked st x (kindOf m) in
           either P t 15 (ltb-false t 15 e) refl (λ i. either P t 16 i refl (λ i. absurd (omega (arith, h))))
 
   pub decorator-high : 18 < t → DecoratorDiffersIs text t opened end false
-  decorator-high h = decorator-is (λ st x n. kind-late (λ z. false ≡ decoratorOf st x z) t h (λ k. refl))
+  decorator-high h = decorator-is (λ st x n. kind-late (λ z. false ≡ decoratorAsked st x z) t h (λ k. refl))

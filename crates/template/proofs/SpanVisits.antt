@@ -3,38 +3,36 @@ use Prim.Native.Nat.{ℕ, zero, suc, _+_, _≤_, _<_}
 use native.Mathlib.Omega.{arith}
 use mathlib.Core.Path.{_≡_, refl, sym, ap, subst, _∙_}
 use mathlib.Core.List.{List, [], _∷_}
-use mathlib.Core.Bool.{Bool, true, false, _&&_, _||_, not}
-use mathlib.Core.Option.{Option, none, some}
+use mathlib.Core.Bool.{Bool, true, false, _||_, not}
+use mathlib.Core.Option.{none}
 use lib.Dec.{ltb}
 use lib.ListN.{length}
-use borrow.Author.Tests.{lt-ltb, le-ltb, ltb-false, not-true, not-false}
+use borrow.Author.Tests.{lt-ltb, le-ltb, ltb-false, not-false}
 use Rattle.support.specs.Bytes.{Bytes, part}
 use Rattle.support.specs.Utf8.{isCharBoundary}
-use Rattle.support.specs.Position.{placeAt, placeOf, lineCol, largest}
+use Rattle.support.specs.Position.{lineCol}
 use Rattle.support.proofs.Places.{line-col-from}
 use Rattle.json_path.specs.Span.{Span, spanCount, spanAt, spansFrom, allFrom}
 use Rattle.json_path.specs.Answers.{Walked}
 use Rattle.json_path.proofs.Spans.{all-next}
-use Rattle.expression.specs.Read.{faultNumber, done, failed}
+use Rattle.expression.specs.Read.{faultNumber}
 use Rattle.expression.specs.Answers.{faultMeans, NamesIs}
 use Rattle.expression.specs.declared.parameter.Fault.{Fault}
 use Rattle.expression.specs.declared.parameter.AsName.{AsName}
 use Rattle.template.specs.Kind.{Tag, tagged, kindOf}
-use Rattle.template.specs.State.{State, prevEnd, owner}
-use Rattle.template.specs.Result.{Result, accepted, refused}
+use Rattle.template.specs.State.{State, prevEnd}
+use Rattle.template.specs.Result.{refused}
 use Rattle.template.specs.Checks.{badSpan, firstBad}
-use Rattle.template.specs.Nests.{keptGap, nests, startsEarly, outOfNesting}
-use Rattle.template.specs.Refusal.{faultPlace, accept, tooManyOpen, helperNameDiffers, decoratorNameDiffers}
+use Rattle.template.specs.Nests.{keptGap, nests, startsEarly}
+use Rattle.template.specs.Refusal.{faultPlace, tooManyOpen, helperNameDiffers, decoratorNameDiffers}
 use Rattle.template.specs.TagExpression.{readTag}
-use Rattle.template.specs.Step.{tagStep}
 use Rattle.template.specs.Walk.{walkTag, walkKind, walkSpan, walk}
 use Rattle.template.specs.Element.{Good}
 use Rattle.template.specs.Asked.{KeptIs, NestsIs, TooManyIs, NamesAre, HelperDiffersIs, DecoratorDiffersIs}
 use Rattle.template.specs.TagRead.{tagMeans, TagDone, TagReadIs}
-use Rattle.template.specs.Visit.{HereIs, Tells, applied, StepIs, VisitIs}
+use Rattle.template.specs.Visit.{Tells, StepIs, VisitIs}
 use Rattle.template.specs.Visiting.{SpanFits, Visited, Makes, KindIs, TagMakes, AdvanceIs}
 use Rattle.template.specs.declared.tag.TagExpression.{TagExpression}
-use Rattle.template.specs.declared.tag.TagRead.{TagRead}
 use Rattle.template.specs.declared.tag.TagRead.the-variants as R
 use Rattle.template.specs.declared.visit.Options.{Options}
 use Rattle.template.specs.declared.visit.Here.{Here}

@@ -1,20 +1,19 @@
 -- What a step is made of, arm by arm of the code: each answer is the one that its tag's kind has (TagKinds). Assumes nothing.
-use Prim.Native.Nat.{ℕ, _+_, _-_, _≤_, _<_}
+use Prim.Native.Nat.{ℕ, _-_, _≤_, _<_}
 use native.Mathlib.Omega.{arith}
-use mathlib.Core.Path.{_≡_, refl, sym, ap, subst, _∙_}
-use mathlib.Core.List.{List, [], _∷_}
+use mathlib.Core.Path.{_≡_, refl, sym, ap, _∙_}
+use mathlib.Core.List.{[], _∷_}
 use mathlib.Core.Bool.{Bool, true, false, _&&_, _||_, not}
 use lib.Dec.{ltb}
-use lib.ListN.{length, take, drop}
+use lib.ListN.{length, drop}
 use borrow.Author.Tests.{ltb-true, ltb-false, not-true, not-false}
 use Rattle.support.specs.Bytes.{Bytes, if, part, isEmpty}
 use Rattle.support.specs.TextRules.{startsWithEmptyLine, endsWithEmptyLine}
 use Rattle.support.specs.declared.position.Place as code
 use Rattle.support.proofs.Pieces.{from-here, up-to}
-use Rattle.json_path.specs.Span.{Span, spanCount}
+use Rattle.json_path.specs.Span.{Span}
 use Rattle.template.specs.Kind as K
 use Rattle.template.specs.Kind.{Tag, plain, tagged, kinds, kindOf}
-use Rattle.template.specs.State as S
 use Rattle.template.specs.Step.{afterGap, standalone}
 use Rattle.template.specs.Element.{newElement}
 use Rattle.template.specs.Visit.{stageMeans}
@@ -29,7 +28,7 @@ use Rattle.template.specs.declared.frame.Stage.the-variants as G
 use Rattle.template.specs.declared.tag.TagExpression.{TagExpression}
 use Rattle.template.specs.declared.visit.Act.{Act}
 use Rattle.template.specs.declared.visit.Act.the-variants as A
-use Rattle.template.proofs.TagKinds.{either, kind-skipped, kind-low, kind-start, kind-else, kind-leaf, kind-end, kind-late, kind-upto, kind-before, kind-behind, Holds, tag-holds, holds-at}
+use Rattle.template.proofs.TagKinds.{either, kind-low, kind-end, kind-late, kind-upto, kind-behind, Holds, tag-holds, holds-at}
 
 -- ---- the stage behind a gap
 

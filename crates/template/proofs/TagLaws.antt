@@ -1,15 +1,15 @@
 -- The expression of a tag: what parse_expression answers is what is read again at the link, and tag 10's tilde and name stand before it.
-use Prim.Native.Nat.{ℕ, _+_, _≤_}
+use Prim.Native.Nat.{ℕ, _+_}
 use native.Mathlib.Omega.{arith}
-use mathlib.Core.Path.{_≡_, refl, sym, ap, subst, _∙_}
+use mathlib.Core.Path.{_≡_, refl, subst, _∙_}
 use mathlib.Core.List.{List}
-use mathlib.Core.Bool.{Bool, true, false, _||_}
+use mathlib.Core.Bool.{Bool, false, _||_}
 use Rattle.support.specs.Bytes.{Bytes}
 use Rattle.json_path.specs.Span.{Span, spansFrom}
-use Rattle.expression.specs.Expression.{Param, Expression, asName, nameOf}
-use Rattle.expression.specs.Read.{ended, Read, done, failed, andThen, mapped}
-use Rattle.expression.specs.Readers.{maxSubexpressions, readTilde, readName, readExpression}
-use Rattle.expression.specs.Answers.{faultMeans, paramMeans, expressionMeans, ExpressionIs, TildeIs, ParamIs}
+use Rattle.expression.specs.Expression.{Param, Expression}
+use Rattle.expression.specs.Read.{Read, done, failed, mapped}
+use Rattle.expression.specs.Readers.{maxSubexpressions, readName, readExpression}
+use Rattle.expression.specs.Answers.{faultMeans, expressionMeans, ExpressionIs, TildeIs, ParamIs}
 use Rattle.expression.specs.declared.parameter.Parameter.{Parameter}
 use Rattle.expression.specs.declared.parameter.Fault.{Fault}
 use Rattle.expression.specs.declared.parameter.Fault.the-variants.{Ended}
@@ -17,10 +17,9 @@ use Rattle.expression.specs.declared.parameter.ExpressionSpec.{ExpressionSpec}
 use Rattle.expression.specs.declared.parameter.ExpressionRead.the-variants as ExpressionRead
 use Rattle.expression.specs.declared.parameter.TildeRead.the-variants as TildeRead
 use Rattle.expression.specs.declared.parameter.ParamRead.the-variants as ParamRead
-use Rattle.template.specs.Kind.{Tag, blockStart, invertTag, invertChainTag, expression, htmlExpression, decoratorExpression, partialExpression, blockEnd, plain, tagged, kinds, kindOf}
+use Rattle.template.specs.Kind.{Tag, blockStart, invertTag, invertChainTag, expression, htmlExpression, decoratorExpression, partialExpression, blockEnd, tagged, kinds, kindOf}
 use Rattle.template.specs.TagExpression.{withOmitPreWs, readOwn, readChain, readTag}
-use Rattle.template.specs.TagRead.{tagMeans, TagDone, tagReadMeans, OwnReadIs, TagReadIs}
-use Rattle.template.specs.declared.tag.TagExpression.{TagExpression}
+use Rattle.template.specs.TagRead.{tagReadMeans, OwnReadIs, TagReadIs}
 use Rattle.template.specs.declared.tag.TagRead.{TagRead}
 use Rattle.template.specs.declared.tag.TagRead.the-variants as R
 use Rattle.template.proofs.TagKinds.{chain-tag}

@@ -1,19 +1,18 @@
 -- What each tag with an expression does: gap and trims, by the standalone test's answer, and then its act. Over plain values.
-use Prim.Native.Nat.{ℕ, suc, _+_, _≤_, _<_}
+use Prim.Native.Nat.{ℕ, suc, _<_}
 use native.Mathlib.Omega.{arith}
 use mathlib.Core.Path.{_≡_, refl, sym, ap, subst, _∙_}
 use mathlib.Core.List.{List, [], _∷_}
 use mathlib.Core.Bool.{Bool, true, false, _&&_, _||_, not}
 use mathlib.Core.Option.{Option, none, some}
-use lib.Dec.{ltb}
-use lib.ListN.{length, take, drop}
+use lib.ListN.{take}
 use borrow.Author.Tests.{ltb-false}
-use Rattle.support.specs.Bytes.{Bytes, if, part}
+use Rattle.support.specs.Bytes.{Bytes, if}
 use Rattle.support.specs.WhiteSpace.{trimEnd}
 use Rattle.support.specs.TextRules.{trimEndBlanks, trailingBlanks}
 use Rattle.support.specs.Position.{placeAt, placeOf}
 use Rattle.support.specs.declared.position.Place as code
-use Rattle.json_path.specs.Span.{Span, spanCount, spansFrom}
+use Rattle.json_path.specs.Span.{Span}
 use Rattle.expression.specs.Expression.{Expression, asName, nameOf}
 use Rattle.expression.specs.Answers.{paramMeans}
 use Rattle.listing.specs.Tree as T
@@ -21,16 +20,15 @@ use Rattle.listing.specs.Reading.{Elem, item}
 use Rattle.template.specs.Kind as K
 use Rattle.template.specs.Kind.{Tag, tagged, kindOf}
 use Rattle.template.specs.State as S
-use Rattle.template.specs.State.{Level, level, Owner, State, state, prevEnd, ownerOf, owner, openCount, withStage, withTop, withOuter, withEndPos, withOmitProWs, withTrimLine, addTo, addElem, trimLast, closeLevel, closeBlock, openBlock, nextBranch, elseBranch}
-use Rattle.template.specs.Nests.{isFilling, takesElse, isOfKind, mayEnd, tagNests, nests}
+use Rattle.template.specs.State.{Level, level, State, state, ownerOf, owner, openCount, withEndPos, withOmitProWs, addTo, trimLast, closeLevel, closeBlock, openBlock, nextBranch}
+use Rattle.template.specs.Nests.{isFilling, isOfKind, tagNests, nests}
 use Rattle.template.specs.Refusal.{maxOpen, oneTooMany, tooManyOpen}
-use Rattle.template.specs.Step.{anyBlanks, afterGap, takeGap, removePreviousWhitespace, processStandalone, standalone, indentMark, indent, headOf, ownerFor, standaloneOf, tagTrims, tagEffect, tagStep}
-use Rattle.template.specs.Element.{backTrim, callAt, blockAt, indentMeans, itemMeans, headMeans, wrapMeans, leaf, helper, wrapper, newElement}
+use Rattle.template.specs.Step.{anyBlanks, afterGap, takeGap, removePreviousWhitespace, processStandalone, standalone, indent, ownerFor, standaloneOf, tagTrims, tagEffect, tagStep}
+use Rattle.template.specs.Element.{backTrim, callAt, blockAt, indentMeans, itemMeans, headMeans, wrapMeans, newElement}
 use Rattle.template.specs.TagRead.{tagMeans}
-use Rattle.template.specs.Visit.{stageMeans, endMeans, withMarks, HereIs, Tells, ownerMeans, leafMeans, gapEffect, trimEffect, actEffect, applied, Made, wrapFits, Allowed}
+use Rattle.template.specs.Visit.{stageMeans, endMeans, withMarks, leafMeans, gapEffect, trimEffect, actEffect, applied, Allowed}
 use Rattle.template.specs.Visiting.{Visited, TagMakes, gapText, trimOf, cutOf, lineOf, stageBehind, helperOf, decoratorOf, actFor, CutIs, LineIs, StageIs, ActIs}
 use Rattle.template.specs.declared.element.Back.{Back}
-use Rattle.template.specs.declared.element.TemplateElement.{TemplateElement}
 use Rattle.template.specs.declared.element.TemplateElement.the-variants as E
 use Rattle.template.specs.declared.element.Element.{Element}
 use Rattle.template.specs.declared.frame.Stage.{Stage}
@@ -40,10 +38,9 @@ use Rattle.template.specs.declared.visit.Options.{Options}
 use Rattle.template.specs.declared.visit.Here.{Here}
 use Rattle.template.specs.declared.visit.View.{View}
 use Rattle.template.specs.declared.visit.Act.{Act}
-use Rattle.template.specs.declared.visit.Act.the-variants as A
 use Rattle.template.specs.declared.visit.Step.{Step}
-use Rattle.template.proofs.LastText.{trim-kept, trims}
-use Rattle.template.proofs.GapLaws.{place-some, made, state-as, gap-outer}
+use Rattle.template.proofs.LastText.{trims}
+use Rattle.template.proofs.GapLaws.{and-yes, place-some, made, state-as}
 use Rattle.template.proofs.VisitLaws.{marksBehind, placed, filling, processed, behind, made-gap}
 
 -- ---- trims
@@ -57,10 +54,6 @@ module _ (text : Bytes) (prevent isPartial : Bool) (s : Span) (g : S.Stage) (t :
 
   by-test : (cut c : Bool) → (alone && cut) ≡ c → processStandalone alone cut (state g t u e w l) ≡ state g (trimmed c) u e w alone
   by-test cut c q = processed alone cut g t u e w l ∙ ap (λ b. state g (trimmed b) u e w alone) q
-
-  and-yes : (b : Bool) → (b && true) ≡ b
-  and-yes true = refl
-  and-yes false = refl
 
   -- the standalone test of each tag
   tested : (k : Tag) → standaloneOf text prevent isPartial k s (state g t u e w l) ≡ state g (trimmed (cutOf k alone prevent)) u e w (lineOf k alone l)

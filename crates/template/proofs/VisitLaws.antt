@@ -1,38 +1,35 @@
 -- What each kind of span without an expression does: the specification's step, unfolded, is the code's step applied. Over plain values.
-use Prim.Native.Nat.{ℕ, suc, _+_, _≤_, _<_}
+use Prim.Native.Nat.{ℕ, _+_, _≤_}
 use native.Mathlib.Omega.{arith}
 use mathlib.Core.Path.{_≡_, refl, sym, ap, subst, _∙_}
-use mathlib.Core.List.{List, [], _∷_}
-use mathlib.Core.Bool.{Bool, true, false, _&&_, _||_, not}
+use mathlib.Core.List.{List}
+use mathlib.Core.Bool.{Bool, true, false, _&&_, not}
 use mathlib.Core.Option.{Option, none, some}
 use lib.Dec.{eqb}
-use lib.ListN.{length, take, drop}
 use borrow.Author.Tests.{eqb-true, eqb-false}
-use Rattle.support.specs.Bytes.{Bytes, if, part}
+use Rattle.support.specs.Bytes.{Bytes, if}
 use Rattle.support.specs.Utf8.{isCharBoundary}
 use Rattle.support.specs.TextRules.{trimEndBlanks, commentCompactText, commentText}
 use Rattle.support.specs.Position.{placeAt, placeOf}
-use Rattle.support.specs.declared.position.Place as code
-use Rattle.json_path.specs.Span.{Span, spanCount, spansFrom, own}
+use Rattle.json_path.specs.Span.{Span, spansFrom, own}
 use Rattle.listing.specs.Tree as T
 use Rattle.listing.specs.Reading.{item}
 use Rattle.template.specs.Kind as K
-use Rattle.template.specs.Kind.{Plain, plain, Kind, kindOf}
+use Rattle.template.specs.Kind.{Plain, plain, kindOf}
 use Rattle.template.specs.State as S
-use Rattle.template.specs.State.{Level, level, State, state, prevEnd, owner, withStage, withTop, withEndPos, withTrimLine, addTo, addElem, trimLast}
-use Rattle.template.specs.Result.{Result, accepted, refused}
-use Rattle.template.specs.Nests.{keptGap, isFilling, plainNests, nests}
-use Rattle.template.specs.Escapes.{textStart, takesEscapes, ownEscapes, badEscapes, faultyEscape, escapesTo, unescaped}
+use Rattle.template.specs.State.{Level, State, state, prevEnd, withTop, withEndPos, withTrimLine, addTo, trimLast}
+use Rattle.template.specs.Result.{accepted, refused}
+use Rattle.template.specs.Nests.{isFilling, plainNests, nests}
+use Rattle.template.specs.Escapes.{textStart, ownEscapes, badEscapes, faultyEscape, unescaped}
 use Rattle.template.specs.Step.{trimFront, afterGap, takeGap, processStandalone, standalone, rawString, addItem, addComment, plainStep}
 use Rattle.template.specs.Walk.{walkPlain, walkKind}
-use Rattle.template.specs.Element.{backTrim, rawMeans, rawEscapes, commentMeans, itemMeans, RawGood, leaf, roleOf, Sound, newElement, emptyElement}
-use Rattle.template.specs.Visit.{stageMeans, endMeans, withMarks, MarksAre, HereIs, Tells, leafMeans, gapEffect, trimEffect, actEffect, applied, Made, GapMade, Allowed}
-use Rattle.template.specs.Visiting.{SpanFits, Visited, Makes, kindMeans, KindIs, gapText, rawFront, trimOf}
+use Rattle.template.specs.Element.{rawMeans, itemMeans, leaf, roleOf, Sound, newElement}
+use Rattle.template.specs.Visit.{stageMeans, withMarks, MarksAre, HereIs, leafMeans, gapEffect, applied, Made, GapMade}
+use Rattle.template.specs.Visiting.{Visited, KindIs, gapText, rawFront, trimOf}
 use Rattle.template.specs.declared.element.Front.{Front}
 use Rattle.template.specs.declared.element.Back.{Back}
 use Rattle.template.specs.declared.element.Back.the-variants as Back
 use Rattle.template.specs.declared.element.RawString.{RawString}
-use Rattle.template.specs.declared.element.Comment.{Comment}
 use Rattle.template.specs.declared.element.TemplateElement.the-variants as E
 use Rattle.template.specs.declared.element.Element.{Element}
 use Rattle.template.specs.declared.frame.Stage.{Stage}
@@ -46,7 +43,7 @@ use Rattle.template.specs.declared.visit.Step.{Step}
 use Rattle.template.specs.declared.visit.Visit.{Visit}
 use Rattle.template.specs.declared.visit.Visit.the-variants as Vis
 use Rattle.template.proofs.LastText.{trim-kept, trims}
-use Rattle.template.proofs.GapLaws.{place-some, made, front-raw, state-as, gap-made, taken, gap-outer}
+use Rattle.template.proofs.GapLaws.{and-yes, place-some, made, front-raw, state-as, gap-made, taken, gap-outer}
 
 -- the marks behind a span that ends at e
 abbrev pub marksBehind : Stage → ℕ → Bool → Bool → Marks
@@ -69,10 +66,6 @@ pub filling : (g : S.Stage) → isFilling g ≡ true → g ≡ S.filling
 filling S.waiting e = let z : _≡_ {A = ℕ} 0 1 = cc in absurd (omega arith)
 filling S.filling e = refl
 filling S.full e = let z : _≡_ {A = ℕ} 0 1 = cc in absurd (omega arith)
-
-and-yes : (b : Bool) → (b && true) ≡ b
-and-yes true = refl
-and-yes false = refl
 
 -- the standalone test's answer, in a state
 pub processed : (alone cut : Bool) (g : S.Stage) (t : Level) (u : List Level) (e : Option ℕ) (w l : Bool)

@@ -1,5 +1,5 @@
 -- What reading a tag's expression answers: its tildes, the link at which it is read again, and the number behind it; or the fault.
-use Prim.Native.Nat.{ℕ, _+_, _≤_, _<_}
+use Prim.Native.Nat.{ℕ, _+_, _≤_}
 use mathlib.Core.Path.{_≡_}
 use mathlib.Core.List.{List}
 use mathlib.Core.Bool.{Bool}

@@ -31,7 +31,6 @@ use Rattle.template.specs.declared.element.RawString.{RawString}
 use Rattle.template.specs.declared.element.HelperTemplate.{HelperTemplate}
 use Rattle.template.specs.declared.element.DecoratorTemplate.{DecoratorTemplate}
 use Rattle.template.specs.declared.element.TemplateElement.the-variants as E
-use Rattle.template.specs.declared.element.Element.{Element}
 use Rattle.template.specs.declared.frame.Marks.{Marks}
 use Rattle.template.specs.declared.frame.Stage.{Stage}
 use Rattle.template.specs.declared.frame.Opened.the-variants as O

@@ -1,28 +1,27 @@
-use Rattle.template.proofs.ReasonLaws as laws
+-- By the ranges of the tag. Assumes nothing.
 use native.Mathlib.Omega.{arith}
-use mathlib.Core.Path.{_≡_, refl, sym, ap, _∙_}
 use borrow.Author.Needs.{needs}
+use Rattle.template.proofs.ReasonLaws as laws
 use Rattle.template.proofs.reason.helper_name_differs.Statement.{statement}
 use Rattle.template.proofs.reason.helper_name_differs.Tie as tie
-use Rattle.template.proofs.reason.helper_name_differs.Reads as reads
-use Rattle.template.proofs.reason.helper_name_differs.Lts as lts
-use Rattle.template.proofs.reason.same_name.Reads as same-name-reads
 
--- src/reason.rt:324:21
 same-name-requires : tie.Need-same-name-requires
 same-name-requires c κs = search needs
 
--- src/reason.rt:320:1
 returns : tie.Need-returns
-returns c = let a = (c .before .before .before .before .args) in laws.helper-ends (a .text .now) (a .tag) (a .opened) (a .end) ((c .same-name) .ensures) (omega arith) (omega arith)
+returns c =
+    let a = c .before .before .before .before .args in
+    laws.helper-ends (a .text .now) (a .tag) (a .opened) (a .end) (c .same-name .ensures) (omega arith) (omega arith)
 
--- src/reason.rt:320:1
 returns-2 : tie.Need-returns-2
-returns-2 c = let a = (c .before .before .args) in laws.helper-low (a .text .now) (a .tag) (a .opened) (a .end) (omega arith)
+returns-2 c =
+    let a = c .before .before .args in
+    laws.helper-low (a .text .now) (a .tag) (a .opened) (a .end) (omega arith)
 
--- src/reason.rt:320:1
 returns-3 : tie.Need-returns-3
-returns-3 c = let a = (c .before .before .before .args) in laws.helper-high (a .text .now) (a .tag) (a .opened) (a .end) (omega arith)
+returns-3 c =
+    let a = c .before .before .before .args in
+    laws.helper-high (a .text .now) (a .tag) (a .opened) (a .end) (omega arith)
 
 pub helper-name-differs-spec : {M : Type 1} → statement M
 helper-name-differs-spec = tie.close (tie.spec same-name-requires returns returns-2 returns-3)

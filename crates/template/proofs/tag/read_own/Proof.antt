@@ -1,37 +1,39 @@
+-- By what the expression's reader answers. Assumes nothing.
+use borrow.Author.Needs.{needs}
 use Rattle.expression.proofs.Cases as cases
 use Rattle.template.proofs.TagLaws as laws
-use native.Mathlib.Omega.{arith}
-use mathlib.Core.Path.{_≡_, refl, sym, ap, _∙_}
-use borrow.Author.Needs.{needs}
 use Rattle.template.proofs.tag.read_own.Statement.{statement}
 use Rattle.template.proofs.tag.read_own.Tie as tie
-use Rattle.template.proofs.tag.read_own.Reads as reads
-use Rattle.template.proofs.tag.read_own.Lts as lts
-use Rattle.expression.proofs.parse.parse_expression.Reads as parse-expression-reads
 
--- src/tag.rt:35:9
 parse-expression-requires : tie.Need-parse-expression-requires
 parse-expression-requires c κs = search needs
 
--- src/tag.rt:37:30
 enum-known-r : tie.Need-enum-known-r
 enum-known-r c = search needs
 
--- src/tag.rt:48:32
 enum-known-r-2 : tie.Need-enum-known-r-2
 enum-known-r-2 c = search needs
 
--- src/tag.rt:32:1
 returns : tie.Need-returns
-returns c = let a = (c .before .before .before .before .before .before .before .args) in laws.own-done (a .text .now) (a .words .now) (a .from) (a .limit) (a .left) (cases.expression-done ((c .before .before .r) .given .1) ((c .before .before .before .before .parse-expression) .ensures)) (rw ((c .if1) .taken))
+returns c =
+    let a = c .before .before .before .before .before .before .before .args in
+    let parse-expression = c .before .before .before .before .parse-expression in
+    laws.own-done (a .text .now) (a .words .now) (a .from) (a .limit) (a .left)
+    (cases.expression-done (c .before .before .r .given .1) (parse-expression .ensures)) (rw (c .if1 .taken))
 
--- src/tag.rt:32:1
 returns-2 : tie.Need-returns-2
-returns-2 c = let a = (c .before .before .before .before .before .before .before .args) in laws.own-done (a .text .now) (a .words .now) (a .from) (a .limit) (a .left) (cases.expression-done ((c .before .before .r) .given .1) ((c .before .before .before .before .parse-expression) .ensures)) (rw ((c .if1) .left))
+returns-2 c =
+    let a = c .before .before .before .before .before .before .before .args in
+    let parse-expression = c .before .before .before .before .parse-expression in
+    laws.own-done (a .text .now) (a .words .now) (a .from) (a .limit) (a .left)
+    (cases.expression-done (c .before .before .r .given .1) (parse-expression .ensures)) (rw (c .if1 .left))
 
--- src/tag.rt:32:1
 returns-3 : tie.Need-returns-3
-returns-3 c = let a = (c .before .before .before .before .before .before .args) in laws.own-failed (a .text .now) (a .words .now) (a .from) (a .limit) (a .left) (cases.expression-failed ((c .before .r2) .given .1) ((c .before .before .before .parse-expression) .ensures))
+returns-3 c =
+    let a = c .before .before .before .before .before .before .args in
+    let parse-expression = c .before .before .before .parse-expression in
+    laws.own-failed (a .text .now) (a .words .now) (a .from) (a .limit) (a .left)
+    (cases.expression-failed (c .before .r2 .given .1) (parse-expression .ensures))
 
 pub read-own-spec : {M : Type 1} → statement M
 read-own-spec =

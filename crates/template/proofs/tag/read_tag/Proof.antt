@@ -1,34 +1,25 @@
-use Rattle.expression.proofs.Cases as cases
-use Rattle.template.proofs.TagLaws as laws
-use native.Mathlib.Omega.{arith}
-use mathlib.Core.Path.{_≡_, refl, sym, ap, _∙_}
+-- Tag 10, and the others. Assumes nothing.
 use borrow.Author.Needs.{needs}
+use Rattle.template.proofs.TagLaws as laws
 use Rattle.template.proofs.tag.read_tag.Statement.{statement}
 use Rattle.template.proofs.tag.read_tag.Tie as tie
-use Rattle.template.proofs.tag.read_tag.Reads as reads
-use Rattle.template.proofs.tag.read_tag.Lts as lts
-use Rattle.template.proofs.tag.read_chain.Reads as read-chain-reads
-use Rattle.template.proofs.tag.read_own.Reads as read-own-reads
 
--- src/tag.rt:73:9
 read-chain-requires : tie.Need-read-chain-requires
 read-chain-requires c κs = search needs
 
--- src/tag.rt:73:9
 returns : tie.Need-returns
-returns c = (c .read-chain) .ensures ((c .before .if1) .taken)
+returns c = c .read-chain .ensures (c .before .if1 .taken)
 
--- src/tag.rt:75:27
 add-read-own : tie.Need-add-read-own
 add-read-own c = search needs
 
--- src/tag.rt:75:5
 read-own-requires : tie.Need-read-own-requires
 read-own-requires c κs = search needs
 
--- src/tag.rt:68:1
 returns-2 : tie.Need-returns-2
-returns-2 c = let a = (c .before .before .before .before .before .before .args) in laws.tag-own (a .text .now) (a .words .now) (a .s) ((c .read-own) .result) ((c .before .before .if1) .left) ((c .read-own) .ensures)
+returns-2 c =
+    let a = c .before .before .before .before .before .before .args in
+    laws.tag-own (a .text .now) (a .words .now) (a .s) (c .read-own .result) (c .before .before .if1 .left) (c .read-own .ensures)
 
 pub read-tag-spec : {M : Type 1} → statement M
 read-tag-spec =

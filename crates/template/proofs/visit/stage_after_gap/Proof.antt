@@ -1,39 +1,35 @@
-use Rattle.template.proofs.StepParts as laws
-use native.Mathlib.Omega.{arith}
-use mathlib.Core.Path.{_≡_, refl, sym, ap, _∙_}
+-- By the gap and the stage. Assumes nothing.
 use borrow.Author.Needs.{needs}
+use Rattle.template.proofs.StepParts as laws
 use Rattle.template.proofs.visit.stage_after_gap.Statement.{statement}
 use Rattle.template.proofs.visit.stage_after_gap.Tie as tie
-use Rattle.template.proofs.visit.stage_after_gap.Reads as reads
-use Rattle.template.proofs.visit.stage_after_gap.Lts as lts
 
--- src/visit.rt:156:9
 returns : tie.Need-returns
-returns c = laws.no-gap ((c .before .args) .gap) ((c .before .args) .g) ((c .if1) .taken)
+returns c = laws.no-gap (c .before .args .gap) (c .before .args .g) (c .if1 .taken)
 
--- src/visit.rt:159:27
 enum-told : tie.Need-enum-told
 enum-told c = search needs
 
--- src/visit.rt:160:27
 enum-told-2 : tie.Need-enum-told-2
 enum-told-2 c = search needs
 
--- src/visit.rt:161:24
 enum-told-3 : tie.Need-enum-told-3
 enum-told-3 c = search needs
 
--- src/visit.rt:152:1
 returns-2 : tie.Need-returns-2
-returns-2 c = laws.after-gap ((c .before .before .before .args) .gap) ((c .before .before .if1) .left) ((c .enum-told) .given .1)
+returns-2 c =
+    let args = c .before .before .before .args in
+    laws.after-gap (args .gap) (c .before .before .if1 .left) (c .enum-told .given .1)
 
--- src/visit.rt:152:1
 returns-3 : tie.Need-returns-3
-returns-3 c = laws.after-gap ((c .before .before .before .args) .gap) ((c .before .before .if1) .left) ((c .enum-told2) .given .1)
+returns-3 c =
+    let args = c .before .before .before .args in
+    laws.after-gap (args .gap) (c .before .before .if1 .left) (c .enum-told2 .given .1)
 
--- src/visit.rt:152:1
 returns-4 : tie.Need-returns-4
-returns-4 c = laws.after-gap ((c .before .before .before .args) .gap) ((c .before .before .if1) .left) ((c .enum-told3) .given .1)
+returns-4 c =
+    let args = c .before .before .before .args in
+    laws.after-gap (args .gap) (c .before .before .if1 .left) (c .enum-told3 .given .1)
 
 pub stage-after-gap-spec : {M : Type 1} → statement M
 stage-after-gap-spec =
