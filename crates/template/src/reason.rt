@@ -130,7 +130,7 @@ pub(crate) fn kept_gap(m: Marks, s: Span) -> bool
     }
 }
 
-pub fn is_filling(g: Stage) -> bool
+pub(crate) fn is_filling(g: Stage) -> bool
     ensures { λ r. ⌜ r ≡ isFilling (stageMeans g) ⌝ }
 {
     match g {
