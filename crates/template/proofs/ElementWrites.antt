@@ -1,29 +1,28 @@
 -- The bytes of an element, piece by piece as the writers store them. Assumes nothing.
-use Prim.Native.Nat.{ℕ, _<_, _≤_}
+use Prim.Native.Nat.{ℕ, _≤_}
 use native.Mathlib.Omega.{arith}
 use mathlib.Core.Path.{_≡_, refl, sym, ap, subst, _∙_}
 use mathlib.Core.List.{List, [], _∷_, _++_, append-nil, append-assoc}
 use mathlib.Core.Bool.{Bool, true, false}
-use mathlib.Core.Option.{Option, none, some}
+use mathlib.Core.Option.{Option}
 use lib.ListN.{length, take}
 use native.Mathlib.Nat.{sub-zero}
 use borrow.Author.Tests.{eq-eqb, ne-eqb}
-use Rattle.support.specs.Bytes.{Bytes, ascii, if, part}
+use Rattle.support.specs.Bytes.{Bytes, ascii, part}
 use Rattle.support.specs.TextRules.{trailingBlanks, commentCompactText, commentText}
 use Rattle.support.specs.Position.{Place}
 use Rattle.support.specs.declared.position.Place as code
 use Rattle.listing.specs.Quoted.{digits, decimal, quoted}
-use Rattle.listing.specs.Form.{Word, Field, spell, writeField, writeFields, writeHead, Forms, nil, cons, openForm, line, writeForm, writeForms}
-use Rattle.listing.specs.Tree.{Item, Wrap, decorBlock, partialBlock, Head, head}
+use Rattle.listing.specs.Form.{Word, Field, spell, writeField, writeFields, writeHead, nil, line, writeForm, writeForms}
+use Rattle.listing.specs.Tree.{decorBlock, partialBlock}
 use Rattle.listing.specs.Tree as T
-use Rattle.listing.specs.Listing.{bit, placeField, indentField, callForms, blockParamForms, itemForm, wrapForm, blockForm}
+use Rattle.listing.specs.Listing.{bit, placeField, indentField, callForms, itemForm}
 use Rattle.listing.specs.Children.{decoratorChildren, helperChildren}
 use Rattle.listing.specs.Written.{largest, Written}
 use Rattle.listing.proofs.Writes.{written-none, written-then, written-length}
 use Rattle.listing.proofs.PathWrites.{three}
-use Rattle.listing.proofs.ChildWrites.{call-join}
 use Rattle.template.specs.Step.{anyBlanks}
-use Rattle.template.specs.Element.{placeMeans, linkOf, rawMeans, commentMeans, callAt, indentMeans, itemMeans, headMeans, headAt, wrapMeans, decorAt, partialAt, Role, leaf, helper, wrapper, nothing, roleOf, RawGood, Sound}
+use Rattle.template.specs.Element.{placeMeans, linkOf, rawMeans, commentMeans, callAt, indentMeans, itemMeans, headMeans, headAt, wrapMeans, nothing, roleOf, RawGood, Sound}
 use Rattle.template.specs.Opening.{blockOpening, wrapOpening, decoratedBytes, openingBy, opening}
 use Rattle.template.specs.declared.element.RawString.{RawString}
 use Rattle.template.specs.declared.element.Comment.{Comment}

@@ -2,7 +2,6 @@
 -- measure is the size of what is left, read from the store. Assumes nothing.
 use Prim.Native.Nat.{ℕ, zero, suc, _+_, _-_, _<_, _≤_}
 use native.Mathlib.Omega.{arith}
-use native.Mathlib.Numerals.{add-one}
 use mathlib.Core.Path.{_≡_, refl, sym, ap, subst, _∙_}
 use mathlib.Core.List.{List, [], _∷_, _++_, append-nil, append-assoc}
 use mathlib.Core.Bool.{Bool, true, false, _&&_, not}
@@ -18,8 +17,8 @@ use Rattle.listing.specs.Listing.{bit, placeField, indentField, callForms, bloc
 use Rattle.listing.specs.Written.{largest, Written}
 use Rattle.listing.proofs.Writes.{written-then, written-length}
 use Rattle.listing.proofs.ChildWrites.{call-join, block-join}
-use Rattle.template.specs.Element.{placeMeans, Role, leaf, helper, wrapper, roleOf, Sound}
-use Rattle.template.specs.Store.{elementAt, Is, Leaf, Helper, Wrapper, Chain, Node, ElseAt, Holds, Stored}
+use Rattle.template.specs.Element.{roleOf, Sound}
+use Rattle.template.specs.Store.{elementAt, Leaf, Helper, Wrapper, Chain, ElseAt, Holds, Stored}
 use Rattle.template.specs.Opening.{blockOpening, wrapOpening, openingBy, opening, hasBody}
 use Rattle.template.specs.declared.element.Element.{Element}
 use Rattle.template.specs.declared.list.Waiting as code

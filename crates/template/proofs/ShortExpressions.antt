@@ -1,9 +1,9 @@
 -- How long the forms of an expression are: each span that a reader takes pays for at most 100,000 bytes. A reader fits if what it reads and
 -- the spans that it leaves are paid for by the spans that it was given; put together from others it fits if they do; then by induction on
 -- the bound on the steps. Assumes nothing.
-use Prim.Native.Nat.{ℕ, zero, suc, _+_, _-_, _*_, _≤_, _<_}
+use Prim.Native.Nat.{ℕ, zero, suc, _+_, _-_, _*_, _≤_}
 use native.Mathlib.Omega.{arith}
-use mathlib.Core.Path.{_≡_, refl, sym, ap, subst, _∙_}
+use mathlib.Core.Path.{_≡_, refl, ap}
 use mathlib.Core.List.{List, [], _∷_, _++_}
 use mathlib.Core.Bool.{Bool, true, false, _||_}
 use mathlib.Core.Option.{Option, none, some}
@@ -11,16 +11,16 @@ use lib.Dec.{ltb, leb, eqb}
 use lib.ListN.{length, length-append}
 use Rattle.support.specs.Bytes.{Bytes, ascii, if, sameBytes, precedes}
 use Rattle.json_path.specs.Span.{Span, own, skipTo, spanCount, spansFrom}
-use Rattle.json_path.specs.Path.{Segment, named, root, here, up, Path, relative, local, segmentOf, prepend, segmentsTo, upsAndName, localName, pathOf, pathAt}
+use Rattle.json_path.specs.Path.{Segment, named, root, here, up, relative, local, segmentOf, prepend, segmentsTo, upsAndName, localName, pathOf}
 use Rattle.literal.specs.Literal.{Verdict, valid, invalid, over, verdict}
 use Rattle.literal.specs.Requote.{requoted}
 use Rattle.expression.specs.Expression.{Param, name, path, literal, subexpression, Call, call, Params, noParams, param, Keys, noKeys, key, BlockParam, noBlockParam, single, pair, Expression, Part, parameter, hash, block, rightTilde, skipped, insertKey, paramsOf, keysOf, lastBlock, expressionOf}
 use Rattle.expression.specs.Read.{Fault, invalidLiteral, overLimit, notAllowed, exhausted, Read, done, failed, Reader, andThen, _>>=_, pure, fail, next, peek, nextBelow, skipping, isTag}
-use Rattle.expression.specs.Readers.{isName, readTilde, literalText, readOwnSpan, readPath, readLiteral, readSecond, readBlockParam, nameWith, valueWith, partWith, readNameBy, readSubexpressionBy, readParamBy, readExpressionBy, readPartsBy, enough, readExpression}
+use Rattle.expression.specs.Readers.{isName, readTilde, literalText, readOwnSpan, readPath, readLiteral, readSecond, readBlockParam, valueWith, partWith, readNameBy, readSubexpressionBy, readParamBy, readExpressionBy, readPartsBy, enough, readExpression}
 use Rattle.expression.specs.Answers.{callOr}
 use Rattle.expression.specs.declared.parameter.Subexpression.{Subexpression}
 use Rattle.listing.specs.Quoted.{decimal, quoted, escaped}
-use Rattle.listing.specs.Form.{Word, quote, number, line, openForm, writeField, writeFields, writeHead, Forms, nil, cons, writeForm, writeForms}
+use Rattle.listing.specs.Form.{Word, quote, openForm, writeField, writeFields, writeHead, nil, cons, writeForm, writeForms}
 use Rattle.listing.specs.Listing.{segmentForm, segmentForms, pathForm, paramForm, callForms, paramForms, keyForms, blockParamForms}
 use Rattle.listing.specs.Children.{blockOr, expressionAt, decoratorChildren, helperChildren}
 use Rattle.listing.proofs.PathWrites.{seg-bytes, path-bytes, local-bytes}

@@ -1,31 +1,30 @@
--- How long a listing is: each element of the store takes at most 20,000,000,000 bytes, so that 8,193 of them stay far below the largest
+-- How long a listing is: each element of the store takes at most 12,000,000,000 bytes, so that 8,193 of them stay far below the largest
 -- position. Places are short since their numbers fit their type. Assumes nothing.
 use Prim.Native.Nat.{ℕ, zero, suc, _+_, _*_, _≤_, _<_}
 use native.Mathlib.Omega.{arith}
-use mathlib.Core.Path.{_≡_, refl, sym, ap, subst, _∙_}
+use mathlib.Core.Path.{_≡_, refl, ap}
 use mathlib.Core.List.{List, [], _∷_, _++_}
 use mathlib.Core.Bool.{Bool, true, false}
-use mathlib.Core.Option.{Option, none, some}
+use mathlib.Core.Option.{none, some}
 use lib.Dec.{eqb}
 use lib.ListN.{length, take, length-append}
 use mir.Val.{Val}
 use denote.Array.{each}
 use denote.Shadow.{shadow}
 use denote.Struct.Declared.{row}
-use Rattle.support.specs.Bytes.{Bytes, ascii, if, part}
+use Rattle.support.specs.Bytes.{Bytes, ascii, if}
 use Rattle.support.specs.Position.{Place, at, placeOf}
 use Rattle.support.specs.TextRules.{trailingBlanks}
 use Rattle.support.specs.declared.position.Place as code
-use Rattle.json_path.specs.Span.{spanCount}
 use Rattle.listing.specs.Quoted.{digits, decimal, quoted}
-use Rattle.listing.specs.Form.{Word, spell, Field, place, writeField, writeHead, writeFields, Forms, nil, cons, openForm, writeForm, writeForms}
+use Rattle.listing.specs.Form.{Word, spell, place, writeField, writeHead, writeFields, nil, writeForm, writeForms}
 use Rattle.listing.specs.Tree.{Elem, item, block, wrap, Body, end, then, Else, noElse, else}
-use Rattle.listing.specs.Listing.{bit, placeField, indentField, callForms, blockParamForms, itemForm, elemForm, bodyForms, elseForms, write}
+use Rattle.listing.specs.Listing.{bit, placeField, indentField, callForms, itemForm, elemForm, bodyForms, elseForms, write}
 use Rattle.listing.specs.Children.{decoratorChildren, helperChildren}
 use Rattle.listing.specs.Written.{largest}
 use Rattle.template.specs.Step.{anyBlanks}
-use Rattle.template.specs.Element.{Good, placeMeans, linkOf, rawMeans, commentMeans, callAt, indentMeans, itemMeans, headMeans, headAt, wrapMeans, roleOf}
-use Rattle.template.specs.Opening.{blockOpening, wrapOpening, decoratedBytes, openingBy, opening}
+use Rattle.template.specs.Element.{Good, placeMeans, linkOf, rawMeans, commentMeans, callAt, indentMeans, itemMeans, headMeans, wrapMeans, roleOf}
+use Rattle.template.specs.Opening.{wrapOpening, decoratedBytes, openingBy, opening}
 use Rattle.template.specs.Store.{elementAt, Chain, Node, ElseAt, Holds}
 use Rattle.template.specs.declared.element.HelperTemplate.{HelperTemplate}
 use Rattle.template.specs.declared.element.DecoratorTemplate.{DecoratorTemplate}
