@@ -8,7 +8,7 @@ use mathlib.Core.Option.{none}
 use lib.Dec.{ltb}
 use lib.ListN.{length}
 use borrow.Author.Tests.{lt-ltb, le-ltb, ltb-false, not-false}
-use Rattle.support.specs.Bytes.{Bytes, part}
+use Rattle.support.specs.Bytes.{Bytes, if, part}
 use Rattle.support.specs.Utf8.{isCharBoundary}
 use Rattle.support.specs.Position.{lineCol}
 use Rattle.support.proofs.Places.{line-col-from}
@@ -21,17 +21,17 @@ use Rattle.expression.specs.declared.parameter.Fault.{Fault}
 use Rattle.expression.specs.declared.parameter.AsName.{AsName}
 use Rattle.template.specs.Kind.{Tag, tagged, kindOf}
 use Rattle.template.specs.State.{State, prevEnd}
-use Rattle.template.specs.Result.{refused}
+use Rattle.template.specs.Result.{accepted, refused, andThen, refuseIf}
 use Rattle.template.specs.Checks.{badSpan, firstBad}
 use Rattle.template.specs.Nests.{keptGap, nests, startsEarly}
 use Rattle.template.specs.Refusal.{faultPlace, tooManyOpen, helperNameDiffers, decoratorNameDiffers}
 use Rattle.template.specs.TagExpression.{readTag}
 use Rattle.template.specs.Walk.{walkTag, walkKind, walkSpan, walk}
 use Rattle.template.specs.Element.{Good}
-use Rattle.template.specs.Asked.{KeptIs, NestsIs, TooManyIs, NamesAre, HelperDiffersIs, DecoratorDiffersIs}
+use Rattle.template.specs.Asked.{KeptIs, NestsIs, TooManyIs, HelperDiffersIs, DecoratorDiffersIs}
 use Rattle.template.specs.TagRead.{tagMeans, TagDone, TagReadIs}
 use Rattle.template.specs.Visit.{Tells, StepIs, VisitIs}
-use Rattle.template.specs.Visiting.{SpanFits, Visited, Makes, KindIs, TagMakes, AdvanceIs}
+use Rattle.template.specs.Visiting.{SpanFits, Visited, Makes, KindIs, TagMakes, TagStepIs, refusalOf, RefusalIs, AdvanceIs}
 use Rattle.template.specs.declared.tag.TagExpression.{TagExpression}
 use Rattle.template.specs.declared.tag.TagRead.the-variants as R
 use Rattle.template.specs.declared.visit.Options.{Options}
@@ -109,46 +109,72 @@ module _ (text : Bytes) (words : List ℕ) (o : Options) (v : View) (s : Span) (
     reads : TagDone text words (readTag text (the .0) s (spansFrom words (s .number + 1))) (s .end) (s .number + 1) x
     reads = h .means (the .0) (the .1)
 
-    module _ {b : Bool} (over : TooManyIs (s .tag) (v .count) b) where
-      over-as : {st : State} → Visited text v s gap here st → b ≡ tooManyOpen (the .0) st
-      over-as {st} u = over .means (the .0) st (the .1) (u .tells .count)
+    module _ {end : AsName} (named : NamesIs (x .name) end) {n : ℕ} (asked : RefusalIs text (s .tag) (v .count) (v .name) end n) where
+      asked-as : {st : State} → Visited text v s gap here st → n ≡ refusalOf (the .0) st (tagMeans text words (s .end) x)
+      asked-as {st} u = asked .means (the .0) st (tagMeans text words (s .end) x) (the .1) (u .tells .count) (record { opens = u .tells .name; closes = named .means text words ∙ reads .name })
 
-      pub tag-over : {r : Visit} → b ≡ true → r ≡ Vis.Refused (record { number = 12; place = s .number }) → Is r
+      -- what is asked of a tag that has read its expression
+      walks-tag : (st : State) (n : ℕ) → n ≡ refusalOf (the .0) st (tagMeans text words (s .end) x) → (n ≡ 0 → ⊥)
+          → walkKind text words (o .«prevent_indent») (o .«is_partial») (kindOf (s .tag)) st s (spansFrom words (s .number + 1)) ≡ refused n (s .number)
       unfolding walkTag
-      tag-over q e = kind-refused text words o v s here e (λ st u. rw (the .1, reads .reads, ← over-as u, q))
+      walks-tag st n e f = rw (the .1, reads .reads) (go (tooManyOpen (the .0) st) (helperNameDiffers (the .0) st (tagMeans text words (s .end) x)) (decoratorNameDiffers (the .0) st (tagMeans text words (s .end) x)) _ e)
+        where
+          go : (a b c : Bool) (y : State × List Span) → n ≡ if a 12 (if b 10 (if c 11 0))
+              → andThen (refuseIf a 12 (s .number)) (λ _. andThen (refuseIf b 10 (s .number)) (λ _. andThen (refuseIf c 11 (s .number)) (λ _. accepted y))) ≡ refused n (s .number)
+          go true b c y e = ap (λ z. refused z (s .number)) (sym e)
+          go false true c y e = ap (λ z. refused z (s .number)) (sym e)
+          go false false true y e = ap (λ z. refused z (s .number)) (sym e)
+          go false false false y e = absurd (f e)
 
-      module _ (few : b ≡ false) {end : AsName} (named : NamesIs (x .name) end) where
-        names : {st : State} → Visited text v s gap here st → NamesAre text (v .name) end st (tagMeans text words (s .end) x)
-        names u = record { opens = u .tells .name; closes = named .means text words ∙ reads .name }
+      pub tag-refused : {r : Visit} → (n ≡ 0 → ⊥) → r ≡ Vis.Refused (record { number = n; place = s .number }) → Is r
+      tag-refused f e = kind-refused text words o v s here e (λ st u. walks-tag st n (asked-as u) f)
 
-        module _ {c : Bool} (helper : HelperDiffersIs text (s .tag) (v .name) end c) where
-          helper-as : {st : State} → Visited text v s gap here st → c ≡ helperNameDiffers (the .0) st (tagMeans text words (s .end) x)
-          helper-as {st} u = helper .means (the .0) st _ (the .1) (names u)
+      none-of : (st : State) → n ≡ 0 → n ≡ refusalOf (the .0) st (tagMeans text words (s .end) x)
+          → (tooManyOpen (the .0) st ≡ false) × (helperNameDiffers (the .0) st (tagMeans text words (s .end) x) ≡ false) × (decoratorNameDiffers (the .0) st (tagMeans text words (s .end) x) ≡ false)
+      none-of st z e = go (tooManyOpen (the .0) st) (helperNameDiffers (the .0) st (tagMeans text words (s .end) x)) (decoratorNameDiffers (the .0) st (tagMeans text words (s .end) x)) (sym z ∙ e)
+        where
+          go : (a b c : Bool) → _≡_ {A = ℕ} 0 (if a 12 (if b 10 (if c 11 0))) → (a ≡ false) × (b ≡ false) × (c ≡ false)
+          go true b c e = absurd (omega arith)
+          go false true c e = absurd (omega arith)
+          go false false true e = absurd (omega arith)
+          go false false false e = (refl, refl, refl)
 
-          pub tag-helper : {r : Visit} → c ≡ true → r ≡ Vis.Refused (record { number = 10; place = s .number }) → Is r
-          unfolding walkTag
-          tag-helper q e = kind-refused text words o v s here e (λ st u. rw (the .1, reads .reads, ← over-as u, few, ← helper-as u, q))
+      steps : {p : Step} → n ≡ 0 → TagMakes text words o v s x gap here p → Is (Vis.Step p)
+      unfolding walkTag
+      steps {p} z t = record {
+        means = λ st u.
+            let f = none-of st z (asked-as u) in
+            record {
+              makes = rw (the .1, reads .reads, f .0, f .1, f .2) (cc (t .makes (the .0) st (the .1) u, t .next));
+              gap = t .gapMade st u;
+              act = t .allowed (the .0) st (the .1) u (f .0) (reads .name);
+              here = t .placed st u;
+              previous = t .previous st;
+              onward = omega (arith, reads .onward, t .next);
+            };
+      }
 
-          module _ (same : c ≡ false) {d : Bool} (decorator : DecoratorDiffersIs text (s .tag) (v .name) end d) where
-            decorator-as : {st : State} → Visited text v s gap here st → d ≡ decoratorNameDiffers (the .0) st (tagMeans text words (s .end) x)
-            decorator-as {st} u = decorator .means (the .0) st _ (the .1) (names u)
+      pub tag-steps : (r : Visit) → n ≡ 0 → TagStepIs text words o v s x gap here r → Is r
+      tag-steps (Vis.Refused f) z t = absurd (t .means)
+      tag-steps Vis.End z t = absurd (t .means)
+      tag-steps (Vis.Step p) z t = steps z (t .means)
 
-            pub tag-decorator : {r : Visit} → d ≡ true → r ≡ Vis.Refused (record { number = 11; place = s .number }) → Is r
-            unfolding walkTag
-            tag-decorator q e = kind-refused text words o v s here e (λ st u. rw (the .1, reads .reads, ← over-as u, few, ← helper-as u, same, ← decorator-as u, q))
+-- ---- 12, 10 and 11
 
-            pub tag-steps : {p : Step} → d ≡ false → TagMakes text words o v s x gap here p → Is (Vis.Step p)
-            unfolding walkTag
-            tag-steps {p} q t = record {
-              means = λ st u. record {
-                makes = rw (the .1, reads .reads, ← over-as u, few, ← helper-as u, same, ← decorator-as u, q) (cc (t .makes (the .0) st (the .1) u, t .next));
-                gap = t .gapMade st u;
-                act = t .allowed (the .0) st (the .1) u (sym (over-as u) ∙ few) (reads .name);
-                here = t .placed st u;
-                previous = t .previous st;
-                onward = omega (arith, reads .onward, t .next);
-              };
-            }
+module _ (text : Bytes) (t c : ℕ) (opened end : AsName) {b : Bool} (over : TooManyIs t c b) where
+  pub refusal-12 : b ≡ true → RefusalIs text t c opened end 12
+  refusal-12 q = record { means = λ k st x e n a. rw (← over .means k st e n, q) }
+
+  module _ (few : b ≡ false) {h : Bool} (helper : HelperDiffersIs text t opened end h) where
+    pub refusal-10 : h ≡ true → RefusalIs text t c opened end 10
+    refusal-10 q = record { means = λ k st x e n a. rw (← over .means k st e n, few, ← helper .means k st x e a, q) }
+
+    module _ (same : h ≡ false) {d : Bool} (decorator : DecoratorDiffersIs text t opened end d) where
+      pub refusal-11 : d ≡ true → RefusalIs text t c opened end 11
+      refusal-11 q = record { means = λ k st x e n a. rw (← over .means k st e n, few, ← helper .means k st x e a, same, ← decorator .means k st x e a, q) }
+
+      pub refusal-none : d ≡ false → RefusalIs text t c opened end 0
+      refusal-none q = record { means = λ k st x e n a. rw (← over .means k st e n, few, ← helper .means k st x e a, same, ← decorator .means k st x e a, q) }
 
 -- ---- the visit
 

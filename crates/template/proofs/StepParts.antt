@@ -1,5 +1,5 @@
 -- What a step is made of, arm by arm of the code: each answer is the one that its tag's kind has (TagKinds). Assumes nothing.
-use Prim.Native.Nat.{ℕ, _-_, _≤_, _<_}
+use Prim.Native.Nat.{ℕ, suc, _≤_, _<_}
 use native.Mathlib.Omega.{arith}
 use mathlib.Core.Path.{_≡_, refl, sym, ap, _∙_}
 use mathlib.Core.List.{[], _∷_}
@@ -9,26 +9,26 @@ use lib.ListN.{length, drop}
 use borrow.Author.Tests.{ltb-true, ltb-false, not-true, not-false}
 use Rattle.support.specs.Bytes.{Bytes, if, part, isEmpty}
 use Rattle.support.specs.TextRules.{startsWithEmptyLine, endsWithEmptyLine}
-use Rattle.support.specs.declared.position.Place as code
 use Rattle.support.proofs.Pieces.{from-here, up-to}
 use Rattle.json_path.specs.Span.{Span}
 use Rattle.template.specs.Kind as K
-use Rattle.template.specs.Kind.{Tag, plain, tagged, kinds, kindOf}
+use Rattle.template.specs.Kind.{Tag, Kind, plain, tagged, kinds, kindOf}
 use Rattle.template.specs.Step.{afterGap, standalone}
-use Rattle.template.specs.Element.{newElement}
 use Rattle.template.specs.Visit.{stageMeans}
-use Rattle.template.specs.Visiting.{cutOf, lineOf, stageBehind, helperOf, decoratorOf, actFor, CutIs, LineIs, StageIs, ActIs}
+use Rattle.template.specs.Visiting.{cutOf, lineOf, stageBehind, helperOf, decoratorOf, elementFor, beginOf, actFor, indentOf, CutIs, LineIs, StageIs, ElementIs, BeginIs, ActIs, IndentIs}
 use Rattle.template.specs.declared.element.HelperTemplate.{HelperTemplate}
 use Rattle.template.specs.declared.element.DecoratorTemplate.{DecoratorTemplate}
+use Rattle.template.specs.declared.element.TemplateElement.{TemplateElement}
 use Rattle.template.specs.declared.element.TemplateElement.the-variants as E
 use Rattle.template.specs.declared.element.Element.{Element}
+use Rattle.template.specs.declared.frame.Opened.{Opened}
 use Rattle.template.specs.declared.frame.Opened.the-variants as O
 use Rattle.template.specs.declared.frame.Stage.{Stage}
 use Rattle.template.specs.declared.frame.Stage.the-variants as G
 use Rattle.template.specs.declared.tag.TagExpression.{TagExpression}
 use Rattle.template.specs.declared.visit.Act.{Act}
 use Rattle.template.specs.declared.visit.Act.the-variants as A
-use Rattle.template.proofs.TagKinds.{either, kind-low, kind-end, kind-late, kind-upto, kind-behind, Holds, tag-holds, holds-at}
+use Rattle.template.proofs.TagKinds.{either, or-later, kind-low, kind-leaf, kind-end, kind-late, kind-upto, kind-behind, Holds, tag-holds, holds-at}
 
 -- ---- the stage behind a gap
 
@@ -137,64 +137,163 @@ module _ (t : ℕ) where
   pub stage-high : 10 < t → StageIs t G.Filling
   stage-high l = stage-is (kind-behind (Holds (Stands G.Filling)) t l refl refl refl refl (λ k. refl) (λ k. tt))
 
--- ---- the act
+-- ---- the element and the act
 
-module _ (s : Span) (x : TagExpression) (p : code.Place) (mark ind : Bool) where
-  abbrev Acts : Act → Tag → Type 0
-  Acts r k = r ≡ actFor k s x p mark ind
+pub below : {t n : ℕ} → t < suc n → t ≤ n
+below h = omega arith
 
-  act-is : (n : ℕ) (j : Tag) → kindOf n ≡ tagged j → s .tag ≡ n → {r : Act} → r ≡ actFor j s x p mark ind → ActIs s x p mark ind r
-  act-is n j e f {r} q = record { means = tag-holds (Acts r) (s .tag) (holds-at (Acts r) (s .tag) n j e f q) }
+module _ (s : Span) (x : TagExpression) (mark ind : Bool) where
+  abbrev Elements : TemplateElement → Tag → Type 0
+  Elements r k = r ≡ elementFor k s x mark ind
 
-  module _ {h : HelperTemplate} {y : Element} (a : h ≡ helperOf x s mark) (b : y ≡ newElement (E.HelperBlock h) p) where
-    pub act-5 : s .tag ≡ 5 → ActIs s x p mark ind (A.Begin y O.Helper)
+  element-is : (r : TemplateElement) → Holds (Elements r) (kindOf (s .tag)) → ElementIs s x mark ind r
+  element-is r h = record { means = tag-holds (Elements r) (s .tag) h }
+
+  element-at : (n : ℕ) (j : Tag) → kindOf n ≡ tagged j → s .tag ≡ n → {r : TemplateElement} → r ≡ elementFor j s x mark ind → ElementIs s x mark ind r
+  element-at n j e f {r} q = element-is r (holds-at (Elements r) (s .tag) n j e f q)
+
+  module _ {h : HelperTemplate} (a : h ≡ helperOf x s mark) where
+    pub element-block : 5 ≤ s .tag → s .tag ≤ 6 → ElementIs s x mark ind (E.HelperBlock h)
     unfolding kinds
-    act-5 f = act-is 5 (K.blockStart K.helperBlock) refl f (cc (a, b))
+    element-block l u = element-is (E.HelperBlock h) (either P (s .tag) 5 l (ap E.HelperBlock a) (λ l. either P (s .tag) 6 l (ap E.HelperBlock a) (λ l. absurd (omega arith))))
+      where
+        P : ℕ → Type 0
+        P n = Holds (Elements (E.HelperBlock h)) (kindOf n)
 
-    pub act-6 : s .tag ≡ 6 → ActIs s x p mark ind (A.Begin y O.Raw)
+    pub element-10 : s .tag ≡ 10 → ElementIs s x mark ind (E.HelperBlock h)
     unfolding kinds
-    act-6 f = act-is 6 (K.blockStart K.rawBlock) refl f (cc (a, b))
+    element-10 f = element-at 10 K.invertChainTag refl f (ap E.HelperBlock a)
 
-    pub act-10 : s .tag ≡ 10 → ActIs s x p mark ind (A.Chain y)
+    pub element-11 : s .tag ≡ 11 → ElementIs s x mark ind (E.Expression h)
     unfolding kinds
-    act-10 f = act-is 10 K.invertChainTag refl f (cc (a, b))
+    element-11 f = element-at 11 K.expression refl f (ap E.Expression a)
 
-  module _ {d : DecoratorTemplate} (a : d ≡ decoratorOf x s mark false) {y : Element} where
-    pub act-7 : y ≡ newElement (E.DecoratorBlock d) p → s .tag ≡ 7 → ActIs s x p mark ind (A.Begin y O.Decorator)
+    pub element-12 : s .tag ≡ 12 → ElementIs s x mark ind (E.HtmlExpression h)
     unfolding kinds
-    act-7 b f = act-is 7 (K.blockStart K.decoratorBlock) refl f (cc (a, b))
+    element-12 f = element-at 12 K.htmlExpression refl f (ap E.HtmlExpression a)
 
-    pub act-8 : y ≡ newElement (E.PartialBlock d) p → s .tag ≡ 8 → ActIs s x p mark ind (A.Begin y O.Partial)
+  module _ {d : DecoratorTemplate} (a : d ≡ decoratorOf x s mark ind) where
+    pub element-7 : s .tag ≡ 7 → ElementIs s x mark ind (E.DecoratorBlock d)
     unfolding kinds
-    act-8 b f = act-is 8 (K.blockStart K.partialBlock) refl f (cc (a, b))
+    element-7 f = element-at 7 (K.blockStart K.decoratorBlock) refl f (ap E.DecoratorBlock a)
 
-    pub act-13 : y ≡ newElement (E.DecoratorExpression d) p → s .tag ≡ 13 → ActIs s x p mark ind (A.Add y)
+    pub element-8 : s .tag ≡ 8 → ElementIs s x mark ind (E.PartialBlock d)
     unfolding kinds
-    act-13 b f = act-is 13 K.decoratorExpression refl f (cc (a, b))
+    element-8 f = element-at 8 (K.blockStart K.partialBlock) refl f (ap E.PartialBlock a)
 
-  pub act-9 : s .tag ≡ 9 → ActIs s x p mark ind A.Else
+    pub element-13 : s .tag ≡ 13 → ElementIs s x mark ind (E.DecoratorExpression d)
+    unfolding kinds
+    element-13 f = element-at 13 K.decoratorExpression refl f (ap E.DecoratorExpression a)
+
+    pub element-14 : s .tag ≡ 14 → ElementIs s x mark ind (E.PartialExpression d)
+    unfolding kinds
+    element-14 f = element-at 14 K.partialExpression refl f (ap E.PartialExpression a)
+
+  pub element-low : s .tag < 5 → ElementIs s x mark ind E.Empty
+  element-low h = element-is E.Empty (kind-low (Holds (Elements E.Empty)) (s .tag) h (λ k. tt))
+
+  -- 9, and behind 14
+  late : (b : Bool) → ltb (s .tag) 19 ≡ b → 15 ≤ s .tag → Holds (Elements E.Empty) (kindOf (s .tag))
+  late true h l = let u = ltb-true (s .tag) 19 h in kind-end (Holds (Elements E.Empty)) (s .tag) l (omega arith) (λ k. refl)
+  late false h l = kind-late (Holds (Elements E.Empty)) (s .tag) (ltb-false (s .tag) 19 h) (λ k. tt)
+
+  pub element-other : 7 ≤ s .tag → (s .tag ≡ 7 → ⊥) → (s .tag ≡ 8 → ⊥) → (s .tag ≡ 10 → ⊥) → (s .tag ≡ 11 → ⊥) → (s .tag ≡ 12 → ⊥) → (s .tag ≡ 13 → ⊥) → (s .tag ≡ 14 → ⊥)
+      → ElementIs s x mark ind E.Empty
   unfolding kinds
-  act-9 f = act-is 9 K.invertTag refl f refl
+  element-other l a b c d e f g = element-is E.Empty (or-later N (s .tag) 7 l (λ z. absurd (a z)) (λ l. or-later N (s .tag) 8 l (λ z. absurd (b z)) (λ l. or-later N (s .tag) 9 l (λ z. nine z) (λ l. or-later N (s .tag) 10 l (λ z. absurd (c z))
+      (λ l. or-later N (s .tag) 11 l (λ z. absurd (d z)) (λ l. or-later N (s .tag) 12 l (λ z. absurd (e z)) (λ l. or-later N (s .tag) 13 l (λ z. absurd (f z)) (λ l. or-later N (s .tag) 14 l (λ z. absurd (g z)) (λ l. late (ltb (s .tag) 19) refl l)))))))))
+    where
+      N : Type 0
+      N = Holds (Elements E.Empty) (kindOf (s .tag))
 
-  module _ {h : HelperTemplate} (a : h ≡ helperOf x s false) {y : Element} where
-    pub act-11 : y ≡ newElement (E.Expression h) p → s .tag ≡ 11 → ActIs s x p mark ind (A.Add y)
-    unfolding kinds
-    act-11 b f = act-is 11 K.expression refl f (cc (a, b))
+      nine : s .tag ≡ 9 → Holds (Elements E.Empty) (kindOf (s .tag))
+      nine z = holds-at (Elements E.Empty) (s .tag) 9 K.invertTag refl z refl
 
-    pub act-12 : y ≡ newElement (E.HtmlExpression h) p → s .tag ≡ 12 → ActIs s x p mark ind (A.Add y)
-    unfolding kinds
-    act-12 b f = act-is 12 K.htmlExpression refl f (cc (a, b))
+pub last-start : {t : ℕ} → 5 ≤ t → t ≤ 8 → (t ≡ 5 → ⊥) → (t ≡ 6 → ⊥) → (t ≡ 7 → ⊥) → t ≡ 8
+last-start l u a b c = omega arith
 
-  pub act-14 : {d : DecoratorTemplate} {y : Element} → d ≡ decoratorOf x s mark ind → y ≡ newElement (E.PartialExpression d) p → s .tag ≡ 14 → ActIs s x p mark ind (A.Add y)
+pub past-10 : {t : ℕ} → 9 ≤ t → (t ≡ 9 → ⊥) → (t ≡ 10 → ⊥) → 11 ≤ t
+past-10 l a b = omega arith
+
+module _ (t : ℕ) where
+  begin-at : (n : ℕ) (j : K.BlockKind) → kindOf n ≡ tagged (K.blockStart j) → t ≡ n → BeginIs t (beginOf j)
+  begin-at n j e f = record {
+    means = λ k u.
+        let q : K.blockStart j ≡ K.blockStart k = (let z : tagged (K.blockStart j) ≡ tagged (K.blockStart k) = sym e ∙ ap kindOf (sym f) ∙ u in cc) in
+        let i : j ≡ k = cc in ap beginOf i;
+  }
+
+  pub begin-5 : t ≡ 5 → BeginIs t O.Helper
   unfolding kinds
-  act-14 a b f = act-is 14 K.partialExpression refl f (cc (a, b))
+  begin-5 f = begin-at 5 K.helperBlock refl f
 
-  -- none of the tags before the end tags
-  pub past-14 : 11 ≤ s .tag → (s .tag ≡ 11 → ⊥) → (s .tag ≡ 12 → ⊥) → (s .tag ≡ 13 → ⊥) → (s .tag ≡ 14 → ⊥) → 15 ≤ s .tag
-  past-14 l a b c d = omega arith
+  pub begin-6 : t ≡ 6 → BeginIs t O.Raw
+  unfolding kinds
+  begin-6 f = begin-at 6 K.rawBlock refl f
 
-  pub act-end : 15 ≤ s .tag → s .tag ≤ 18 → ActIs s x p mark ind A.Close
-  act-end l u = record { means = tag-holds (Acts A.Close) (s .tag) (kind-end (Holds (Acts A.Close)) (s .tag) l u (λ k. refl)) }
+  pub begin-7 : t ≡ 7 → BeginIs t O.Decorator
+  unfolding kinds
+  begin-7 f = begin-at 7 K.decoratorBlock refl f
+
+  pub begin-8 : t ≡ 8 → BeginIs t O.Partial
+  unfolding kinds
+  begin-8 f = begin-at 8 K.partialBlock refl f
+
+  module _ (e : Element) where
+    abbrev Acts : Act → Tag → Type 0
+    Acts r k = r ≡ actFor k e
+
+    act-is : (r : Act) → Holds (Acts r) (kindOf t) → ActIs t e r
+    act-is r h = record { means = tag-holds (Acts r) t h }
+
+    pub act-begin : {o : Opened} → 5 ≤ t → t ≤ 8 → BeginIs t o → ActIs t e (A.Begin e o)
+    unfolding kinds
+    act-begin {o} l u b = act-is (A.Begin e o) (either P t 5 l (λ c. ap (A.Begin e) (c .means K.helperBlock refl)) (λ l. either P t 6 l (λ c. ap (A.Begin e) (c .means K.rawBlock refl))
+        (λ l. either P t 7 l (λ c. ap (A.Begin e) (c .means K.decoratorBlock refl)) (λ l. either P t 8 l (λ c. ap (A.Begin e) (c .means K.partialBlock refl)) (λ l. absurd (omega arith))))) b)
+      where
+        P : ℕ → Type 0
+        P n = BeginIs n o → Holds (Acts (A.Begin e o)) (kindOf n)
+
+    pub act-9 : t ≡ 9 → ActIs t e A.Else
+    unfolding kinds
+    act-9 f = act-is A.Else (holds-at (Acts A.Else) t 9 K.invertTag refl f refl)
+
+    pub act-10 : t ≡ 10 → ActIs t e (A.Chain e)
+    unfolding kinds
+    act-10 f = act-is (A.Chain e) (holds-at (Acts (A.Chain e)) t 10 K.invertChainTag refl f refl)
+
+    pub act-add : 11 ≤ t → t ≤ 14 → ActIs t e (A.Add e)
+    act-add l u = act-is (A.Add e) (kind-leaf (Holds (Acts (A.Add e))) t l u refl refl refl refl)
+
+    pub act-end : 15 ≤ t → t ≤ 18 → ActIs t e A.Close
+    act-end l u = act-is A.Close (kind-end (Holds (Acts A.Close)) t l u (λ k. refl))
+
+module _ (t : ℕ) (prevent left : Bool) where
+  abbrev Indents : Bool → Tag → Type 0
+  Indents r k = r ≡ indentOf k prevent left
+
+  indent-is : {r : Bool} → Holds (Indents r) (kindOf t) → IndentIs t prevent left r
+  indent-is {r} h = record { means = tag-holds (Indents r) t h }
+
+  pub indent-14 : {r : Bool} → t ≡ 14 → r ≡ (not prevent && not left) → IndentIs t prevent left r
+  unfolding kinds
+  indent-14 {r} f q = indent-is (holds-at (Indents r) t 14 K.partialExpression refl f q)
+
+  pub indent-none : (t ≡ 14 → ⊥) → IndentIs t prevent left false
+  unfolding kinds
+  indent-none n = indent-is (go (ltb t 11) refl)
+    where
+      N : Kind → Type 0
+      N = Holds (Indents false)
+
+      end : (b : Bool) → ltb t 19 ≡ b → 15 ≤ t → N (kindOf t)
+      end true h l = let u = ltb-true t 19 h in kind-end N t l (omega arith) (λ k. refl)
+      end false h l = kind-late N t (ltb-false t 19 h) (λ k. tt)
+
+      go : (b : Bool) → ltb t 11 ≡ b → N (kindOf t)
+      go true h = kind-upto N t (ltb-true t 11 h) (λ k. tt) (λ k. refl) refl refl
+      go false h = either (λ n. N (kindOf n)) t 11 (ltb-false t 11 h) refl (λ l. either (λ n. N (kindOf n)) t 12 l refl (λ l. either (λ n. N (kindOf n)) t 13 l refl
+          (λ l. end (ltb t 19) refl (omega arith))))
 
 -- ---- a skipped span
 

@@ -27,11 +27,13 @@ use Rattle.template.specs.Step.{anyBlanks, afterGap, takeGap, removePrev
 use Rattle.template.specs.Element.{backTrim, callAt, blockAt, indentMeans, itemMeans, headMeans, wrapMeans, newElement}
 use Rattle.template.specs.TagRead.{tagMeans}
 use Rattle.template.specs.Visit.{stageMeans, endMeans, withMarks, leafMeans, gapEffect, trimEffect, actEffect, applied, Allowed}
-use Rattle.template.specs.Visiting.{Visited, TagMakes, gapText, trimOf, cutOf, lineOf, stageBehind, helperOf, decoratorOf, actFor, CutIs, LineIs, StageIs, ActIs}
+use Rattle.template.specs.Visiting.{Visited, TagMakes, gapText, trimOf, cutOf, lineOf, stageBehind, helperOf, decoratorOf, elementFor, actFor, indentOf, CutIs, LineIs, StageIs, ElementIs, ActIs, IndentIs, TagStepIs}
 use Rattle.template.specs.declared.element.Back.{Back}
+use Rattle.template.specs.declared.element.TemplateElement.{TemplateElement}
 use Rattle.template.specs.declared.element.TemplateElement.the-variants as E
 use Rattle.template.specs.declared.element.Element.{Element}
 use Rattle.template.specs.declared.frame.Stage.{Stage}
+use Rattle.template.specs.declared.frame.Stage.the-variants as G
 use Rattle.template.specs.declared.frame.Marks.{Marks}
 use Rattle.template.specs.declared.tag.TagExpression.{TagExpression}
 use Rattle.template.specs.declared.visit.Options.{Options}
@@ -39,6 +41,8 @@ use Rattle.template.specs.declared.visit.Here.{Here}
 use Rattle.template.specs.declared.visit.View.{View}
 use Rattle.template.specs.declared.visit.Act.{Act}
 use Rattle.template.specs.declared.visit.Step.{Step}
+use Rattle.template.specs.declared.visit.Visit.{Visit}
+use Rattle.template.specs.declared.visit.Visit.the-variants as Vis
 use Rattle.template.proofs.LastText.{trims}
 use Rattle.template.proofs.GapLaws.{and-yes, place-some, made, state-as}
 use Rattle.template.proofs.VisitLaws.{marksBehind, placed, filling, processed, behind, made-gap}
@@ -131,13 +135,16 @@ Ready K.partialExpression g t u = g ≡ S.filling
 Ready (K.blockEnd k) g t u = (ownerOf t ≡ S.root → ⊥) × (u ≡ [] → ⊥)
 
 module _ (text : Bytes) (words : List ℕ) (prevent isPartial : Bool) (s : Span) (x : TagExpression) {p : code.Place} (q : placeOf p ≡ placeAt text (s .start))
-    {mark ind : Bool} (r : mark ≡ (standalone text isPartial s && not (x .«omit_pre_ws»))) (i : ind ≡ (not prevent && not (x .«omit_pre_ws»))) where
+    (mark ind : Bool) (r : mark ≡ (standalone text isPartial s && not (x .«omit_pre_ws»))) where
   abbrev read : Expression
   read = tagMeans text words (s .end) x
 
-  indent-as : indent text prevent s read ≡ indentMeans text words (decoratorOf x s mark ind)
+  no-indent : ind ≡ false → none ≡ indentMeans text words (decoratorOf x s mark ind)
+  no-indent i = ap (λ b. if b (anyBlanks (trailingBlanks (take (s .start) text))) none) (sym i)
+
+  indent-as : ind ≡ (not prevent && not (x .«omit_pre_ws»)) → indent text prevent s read ≡ indentMeans text words (decoratorOf x s mark ind)
   unfolding indent
-  indent-as = go prevent (x .«omit_pre_ws») ∙ ap (λ b. if b (anyBlanks (trailingBlanks (take (s .start) text))) none) (sym i)
+  indent-as i = go prevent (x .«omit_pre_ws») ∙ ap (λ b. if b (anyBlanks (trailingBlanks (take (s .start) text))) none) (sym i)
     where
       go : (a b : Bool) → (if (a || b) none (anyBlanks (trailingBlanks (take (s .start) text)))) ≡ if (not a && not b) (anyBlanks (trailingBlanks (take (s .start) text))) none
       go true b = refl
@@ -148,21 +155,22 @@ module _ (text : Bytes) (words : List ℕ) (prevent isPartial : Bool) (s : Span)
     -- both sides: the specification's state, and the code's
     abbrev Acts : Tag → Type 0
     Acts k = withEndPos n (tagEffect text prevent isPartial k s read (state g t u f (m .«omit_pro_ws») (m .«trim_line_required»)))
-        ≡ withMarks m (actEffect text words (actFor k s x p mark ind) (state a t u b c d))
+        ≡ withMarks m (actEffect text words (actFor k (newElement (elementFor k s x mark ind) p)) (state a t u b c d))
 
-    pub acts : (k : Tag) → stageMeans (m .stage) ≡ stageBehind k → Ready k g t u → Acts k
+    pub acts : (k : Tag) → ind ≡ indentOf k prevent (x .«omit_pre_ws») → stageMeans (m .stage) ≡ stageBehind k → Ready k g t u → Acts k
     unfolding tagEffect ownerFor openBlock withMarks itemMeans headMeans wrapMeans
-    acts (K.blockStart K.helperBlock) h y = state-as (sym h) (cc (q, r)) refl (sym e) refl refl
-    acts (K.blockStart K.rawBlock) h y = state-as (sym h) (cc (q, r)) refl (sym e) refl refl
-    acts (K.blockStart K.decoratorBlock) h y = state-as (sym h) (cc (q, r)) refl (sym e) refl refl
-    acts (K.blockStart K.partialBlock) h y = state-as (sym h) (cc (q, r)) refl (sym e) refl refl
-    acts K.invertTag h y = state-as (sym h) refl refl (sym e) refl refl
-    acts K.invertChainTag h y = state-as (sym h) (ap (λ z. nextBranch (T.head (callAt text words (x .from) (s .end)) (blockAt text words (x .from) (s .end)) z) t) (sym r)) refl (sym e) refl refl
-    acts K.expression h y = state-as (y ∙ sym h) (ap (λ z. addTo (item z (T.expr (callAt text words (x .from) (s .end)) (blockAt text words (x .from) (s .end)))) t) (sym q)) refl (sym e) refl refl
-    acts K.htmlExpression h y = state-as (y ∙ sym h) (ap (λ z. addTo (item z (T.html (callAt text words (x .from) (s .end)) (blockAt text words (x .from) (s .end)))) t) (sym q)) refl (sym e) refl refl
-    acts K.decoratorExpression h y = state-as (y ∙ sym h) (ap (λ z. addTo z t) (cc (q, r))) refl (sym e) refl refl
-    acts K.partialExpression h y = state-as (y ∙ sym h) (ap (λ z. addTo z t) (cc (q, r, indent-as))) refl (sym e) refl refl
-    acts (K.blockEnd k) h y = closed t u (y .0) (y .1) g a f b (m .«omit_pro_ws») (m .«trim_line_required») c d n m h e refl refl
+    acts (K.blockStart K.helperBlock) i h y = state-as (sym h) (cc (q, r)) refl (sym e) refl refl
+    acts (K.blockStart K.rawBlock) i h y = state-as (sym h) (cc (q, r)) refl (sym e) refl refl
+    acts (K.blockStart K.decoratorBlock) i h y = state-as (sym h) (cc (q, r, no-indent i)) refl (sym e) refl refl
+    acts (K.blockStart K.partialBlock) i h y = state-as (sym h) (cc (q, r, no-indent i)) refl (sym e) refl refl
+    acts K.invertTag i h y = state-as (sym h) refl refl (sym e) refl refl
+    acts K.invertChainTag i h y =
+        state-as (sym h) (ap (λ z. nextBranch (T.head (callAt text words (x .from) (s .end)) (blockAt text words (x .from) (s .end)) z) t) (sym r)) refl (sym e) refl refl
+    acts K.expression i h y = state-as (y ∙ sym h) (ap (λ z. addTo (item z (T.expr (callAt text words (x .from) (s .end)) (blockAt text words (x .from) (s .end)))) t) (sym q)) refl (sym e) refl refl
+    acts K.htmlExpression i h y = state-as (y ∙ sym h) (ap (λ z. addTo (item z (T.html (callAt text words (x .from) (s .end)) (blockAt text words (x .from) (s .end)))) t) (sym q)) refl (sym e) refl refl
+    acts K.decoratorExpression i h y = state-as (y ∙ sym h) (ap (λ z. addTo z t) (cc (q, r, no-indent i))) refl (sym e) refl refl
+    acts K.partialExpression i h y = state-as (y ∙ sym h) (ap (λ z. addTo z t) (cc (q, r, indent-as i))) refl (sym e) refl refl
+    acts (K.blockEnd k) i h y = closed t u (y .0) (y .1) g a f b (m .«omit_pro_ws») (m .«trim_line_required») c d n m h e refl refl
 
 -- ---- the step
 
@@ -214,17 +222,17 @@ module _ (text : Bytes) (words : List ℕ) (o : Options) (v : View) (s : Span) (
     fewer e = let z = ltb-false maxOpen (suc (openCount st)) e in omega arith
 
     may : (mark ind : Bool) (k : Tag) → tagNests k gap st ≡ true → tooManyOpen k st ≡ false
-        → asName (paramMeans text words (x .name)) ≡ nameOf (callAt text words (x .from) (s .end)) → Allowed text words (actFor k s x (here .place) mark ind) st
+        → asName (paramMeans text words (x .name)) ≡ nameOf (callAt text words (x .from) (s .end)) → Allowed text words (actFor k (newElement (elementFor k s x mark ind) (here .place))) st
     unfolding tagNests wrapMeans
     may mark ind (K.blockStart K.helperBlock) n c q = (made text words (E.HelperBlock (helperOf x s mark)) (here .place) (place-some text (s .start) (h .place)) q, fewer c)
     may mark ind (K.blockStart K.rawBlock) n c q = (made text words (E.HelperBlock (helperOf x s mark)) (here .place) (place-some text (s .start) (h .place)) q, fewer c)
-    may mark ind (K.blockStart K.decoratorBlock) n c q = (made text words (E.DecoratorBlock (decoratorOf x s mark false)) (here .place) (place-some text (s .start) (h .place)) q, refl, fewer c)
-    may mark ind (K.blockStart K.partialBlock) n c q = (made text words (E.PartialBlock (decoratorOf x s mark false)) (here .place) (place-some text (s .start) (h .place)) q, refl, fewer c)
+    may mark ind (K.blockStart K.decoratorBlock) n c q = (made text words (E.DecoratorBlock (decoratorOf x s mark ind)) (here .place) (place-some text (s .start) (h .place)) q, refl, fewer c)
+    may mark ind (K.blockStart K.partialBlock) n c q = (made text words (E.PartialBlock (decoratorOf x s mark ind)) (here .place) (place-some text (s .start) (h .place)) q, refl, fewer c)
     may mark ind K.invertTag n c q = and-right (isFilling (st .stage)) _ n
     may mark ind K.invertChainTag n c q = (made text words (E.HelperBlock (helperOf x s mark)) (here .place) (place-some text (s .start) (h .place)) q, and-right (isFilling (st .stage)) _ n, fewer c)
-    may mark ind K.expression n c q = made text words (E.Expression (helperOf x s false)) (here .place) (place-some text (s .start) (h .place)) tt
-    may mark ind K.htmlExpression n c q = made text words (E.HtmlExpression (helperOf x s false)) (here .place) (place-some text (s .start) (h .place)) tt
-    may mark ind K.decoratorExpression n c q = made text words (E.DecoratorExpression (decoratorOf x s mark false)) (here .place) (place-some text (s .start) (h .place)) tt
+    may mark ind K.expression n c q = made text words (E.Expression (helperOf x s mark)) (here .place) (place-some text (s .start) (h .place)) tt
+    may mark ind K.htmlExpression n c q = made text words (E.HtmlExpression (helperOf x s mark)) (here .place) (place-some text (s .start) (h .place)) tt
+    may mark ind K.decoratorExpression n c q = made text words (E.DecoratorExpression (decoratorOf x s mark ind)) (here .place) (place-some text (s .start) (h .place)) tt
     may mark ind K.partialExpression n c q = made text words (E.PartialExpression (decoratorOf x s mark ind)) (here .place) (place-some text (s .start) (h .place)) tt
     may mark ind (K.blockEnd k) n c q = not-root k n
 
@@ -233,10 +241,13 @@ module _ (text : Bytes) (words : List ℕ) (o : Options) (v : View) (s : Span) (
       {alone : Bool} (a : alone ≡ standalone text (o .«is_partial») s)
       {cut : Bool} (c : CutIs (s .tag) alone (o .«prevent_indent») cut) {b : Back} (d : b ≡ trimOf (x .«omit_pre_ws») cut)
       {sg : Stage} (w : StageIs (s .tag) sg) {line : Bool} (f : LineIs (s .tag) alone l line)
-      {mark ind : Bool} (r : mark ≡ (alone && not (x .«omit_pre_ws»))) (q : ind ≡ (not (o .«prevent_indent») && not (x .«omit_pre_ws»)))
-      {act : Act} (t : ActIs s x (here .place) mark ind act) where
+      {mark ind : Bool} (r : mark ≡ (alone && not (x .«omit_pre_ws»))) (q : IndentIs (s .tag) (o .«prevent_indent») (x .«omit_pre_ws») ind)
+      {y : TemplateElement} (made-of : ElementIs s x mark ind y) {z : Element} (placed-as : z ≡ newElement y (here .place)) {act : Act} (t : ActIs (s .tag) z act) where
     abbrev tagged-step : Step
     tagged-step = record { gapped = gap; gap = e; back = b; act = act; marks = marksBehind sg (s .end) (x .«omit_pro_ws») line; here = here; next = x .next }
+
+    act-as : (k : Tag) → kindOf (s .tag) ≡ tagged k → act ≡ actFor k (newElement (elementFor k s x mark ind) (here .place))
+    act-as k u = t .means k u ∙ ap (actFor k) (placed-as ∙ ap (λ w. newElement w (here .place)) (made-of .means k u))
 
     step-as : (k : Tag) (st : State) → kindOf (s .tag) ≡ tagged k → Visited text v s gap here st
         → tagStep text (o .«prevent_indent») (o .«is_partial») k st s (tagMeans text words (s .end) x) ≡ applied text words tagged-step st
@@ -249,19 +260,41 @@ module _ (text : Bytes) (words : List ℕ) (o : Options) (v : View) (s : Span) (
         ap (λ z. withEndPos (s .end) (tagEffect text (o .«prevent_indent») (o .«is_partial») k s read z))
         (trimmed-as text (o .«prevent_indent») (o .«is_partial») s k st read (behind text words o v s here g gap new i j h)
         ∙ state-as refl (ap (λ z. trimLast (backTrim z) t₁) back) refl refl refl lines)
-        ∙ acts text words (o .«prevent_indent») (o .«is_partial») s x (h .place) (r ∙ ap (λ z. z && not (x .«omit_pre_ws»)) a) q
+        ∙ acts text words (o .«prevent_indent») (o .«is_partial») s x (h .place) mark ind (r ∙ ap (λ z. z && not (x .«omit_pre_ws»)) a)
         (marksBehind sg (s .end) (x .«omit_pro_ws») line) (s .end) refl (stageMeans g) (st .stage) (trimLast (backTrim b) t₁) (st .outer) (st .endPos) (st .endPos) (st .omitProWs) (st .trimLineRequired)
-        k (w .means k u) (ready h g e (backTrim b) i k (nested-as h k u))
-        ∙ ap (λ z. withMarks (marksBehind sg (s .end) (x .«omit_pro_ws») line) (actEffect text words z (state (st .stage) (trimLast (backTrim b) t₁) (st .outer) (st .endPos) (st .omitProWs) (st .trimLineRequired)))) (sym (t .means k u))
+        k (q .means k u) (w .means k u) (ready h g e (backTrim b) i k (nested-as h k u))
+        ∙ ap (λ z. withMarks (marksBehind sg (s .end) (x .«omit_pro_ws») line) (actEffect text words z (state (st .stage) (trimLast (backTrim b) t₁) (st .outer) (st .endPos) (st .omitProWs) (st .trimLineRequired)))) (sym (act-as k u))
         ∙ ap (λ z. withMarks (marksBehind sg (s .end) (x .«omit_pro_ws») line) (actEffect text words act z)) (sym (gap-state gap e b st))
 
-    pub tag-step : TagMakes text words o v s x gap here tagged-step
+    tag-makes : TagMakes text words o v s x gap here tagged-step
     unfolding withMarks
-    tag-step = record {
+    tag-makes = record {
       makes = step-as;
       gapMade = λ st h. made-gap text words o v s here g gap new i j h;
-      allowed = λ k st u h n y. subst (λ z. Allowed text words z st) (sym (t .means k u)) (may h mark ind k (nested-as h k u) n y);
+      allowed = λ k st u h n y. subst (λ z. Allowed text words z st) (sym (act-as k u)) (may h mark ind k (nested-as h k u) n y);
       placed = λ st h. placed h;
       previous = λ st. refl;
       next = refl;
     }
+
+    pub tag-step : {r : Visit} → r ≡ Vis.Step tagged-step → TagStepIs text words o v s x gap here r
+    tag-step e = subst (λ r. TagStepIs text words o v s x gap here r) (sym e) (record { means = tag-makes })
+
+-- ---- the stage behind a gap
+
+abbrev filled : Stage → Stage
+filled G.Waiting = G.Full
+filled G.Filling = G.Filling
+filled G.Full = G.Full
+
+filled-as : (g : Stage) → stageMeans (filled g) ≡ afterGap (stageMeans g)
+filled-as G.Waiting = refl
+filled-as G.Filling = refl
+filled-as G.Full = refl
+
+abbrev pub gapStage : Bool → Stage → Stage
+gapStage gap g = if gap (filled g) g
+
+pub gap-stage : (gap : Bool) (g : Stage) → stageMeans (gapStage gap g) ≡ if gap (afterGap (stageMeans g)) (stageMeans g)
+gap-stage true g = filled-as g
+gap-stage false g = refl

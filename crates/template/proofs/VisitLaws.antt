@@ -23,10 +23,9 @@ use Rattle.template.specs.Nests.{isFilling, plainNests, nests}
 use Rattle.template.specs.Escapes.{textStart, ownEscapes, badEscapes, faultyEscape, unescaped}
 use Rattle.template.specs.Step.{trimFront, afterGap, takeGap, processStandalone, standalone, rawString, addItem, addComment, plainStep}
 use Rattle.template.specs.Walk.{walkPlain, walkKind}
-use Rattle.template.specs.Element.{rawMeans, itemMeans, leaf, roleOf, Sound, newElement}
+use Rattle.template.specs.Element.{rawMeans, itemMeans, leaf, roleOf, Sound, newElement, emptyElement}
 use Rattle.template.specs.Visit.{stageMeans, withMarks, MarksAre, HereIs, leafMeans, gapEffect, applied, Made, GapMade}
-use Rattle.template.specs.Visiting.{Visited, KindIs, gapText, rawFront, trimOf}
-use Rattle.template.specs.declared.element.Front.{Front}
+use Rattle.template.specs.Visiting.{Visited, KindIs, gapText, textElement, textStep, rawFront, trimOf}
 use Rattle.template.specs.declared.element.Back.{Back}
 use Rattle.template.specs.declared.element.Back.the-variants as Back
 use Rattle.template.specs.declared.element.RawString.{RawString}
@@ -48,6 +47,27 @@ use Rattle.template.proofs.GapLaws.{and-yes, place-some, made, front-ra
 -- the marks behind a span that ends at e
 abbrev pub marksBehind : Stage → ℕ → Bool → Bool → Marks
 marksBehind g e w l = record { stage = g; «end_pos» = e; started = true; «omit_pro_ws» = w; «trim_line_required» = l }
+
+-- a text's step, from its element
+pub text-step-of : (v : View) (s : Span) (here : Here) (start : ℕ) (g : Stage) (l : Bool) {e : Element} {r : Visit}
+    → r ≡ Vis.Step (record {
+      gapped = false;
+      gap = emptyElement;
+      back = Back.Kept;
+      act = A.Add e;
+      marks = marksBehind g (s .end) (v .marks .«omit_pro_ws») l;
+      here = here;
+      next = s .number + 1;
+    }) → e ≡ textElement v s start (here .place) → r ≡ Vis.Step (textStep v s here start g l)
+text-step-of v s here start g l q e = q ∙ ap (λ z. Vis.Step (record {
+  gapped = false;
+  gap = emptyElement;
+  back = Back.Kept;
+  act = A.Add z;
+  marks = marksBehind g (s .end) (v .marks .«omit_pro_ws») l;
+  here = here;
+  next = s .number + 1;
+})) e
 
 -- ---- what every step has
 
@@ -86,6 +106,9 @@ module _ (text : Bytes) (words : List ℕ) (o : Options) (v : View) (s : Span) (
       → ((st : State) → Visited text v s gap here st → walkKind text words (o .«prevent_indent») (o .«is_partial») (kindOf (s .tag)) st s (spansFrom words (s .number + 1)) ≡ refused n p)
       → KindIs text words o v s gap here r
   kind-refused {gap} e f = subst (λ r. KindIs text words o v s gap here r) (sym e) (record { means = f })
+
+  pub kind-as : {gap : Bool} {r q : Visit} → r ≡ q → KindIs text words o v s gap here q → KindIs text words o v s gap here r
+  kind-as {gap} e h = subst (λ r. KindIs text words o v s gap here r) (sym e) h
 
   -- no escape is asked for, and the step is made
   module _ (k : Plain) (e : kindOf (s .tag) ≡ plain k) where
@@ -221,32 +244,31 @@ module _ (text : Bytes) (words : List ℕ) (o : Options) (v : View) (s : Span) (
 
   -- ---- texts
 
-  module _ {f : Front} (fronted : f ≡ rawFront m) (start : ℕ) {y : Element}
-      (new : y ≡ newElement (E.RawString (record { start = start; end = s .end; escapes = s .number + 1; front = f; back = Back.Kept })) (here .place)) where
+  module _ (start : ℕ) where
     abbrev raw : RawString
-    raw = record { start = start; end = s .end; escapes = s .number + 1; front = f; back = Back.Kept }
+    raw = record { start = start; end = s .end; escapes = s .number + 1; front = rawFront m; back = Back.Kept }
+
+    abbrev y : Element
+    y = textElement v s start (here .place)
 
     raw-means : {st : State} → MarksAre m st → rawMeans text words raw ≡ trimFront st (unescaped text start (s .end) (ownEscapes words s))
     unfolding rawMeans
-    raw-means h = rw fronted (front-raw h (unescaped text start (s .end) (ownEscapes words s)))
+    raw-means h = front-raw h (unescaped text start (s .end) (ownEscapes words s))
 
     text-leaf : (k : Plain) {st : State} → placeOf (here .place) ≡ placeAt text (s .start) → MarksAre m st → start ≡ textStart k st s
         → leafMeans text words y ≡ item (placeAt text (s .start)) (T.text (rawString text words k st s))
     unfolding itemMeans rawString
-    text-leaf k {st} q h e = rw new (cc (q, raw-means h, e))
+    text-leaf k {st} q h e = cc (q, raw-means h, e)
 
     text-made : {st : State} {gap : Bool} → Visited text v s gap here st → start ≤ s .end → isCharBoundary text start ≡ true
         → badEscapes text start (ownEscapes words s) ≡ false → Made text words leaf y
-    text-made h a b c = subst (λ z. Made text words leaf z) (sym new) (made text words (E.RawString raw) (here .place) (place-some text (s .start) (h .place))
-        (record { order = a; inside = h .fits .inside; starts = b; ends = h .fits .ends; escapes = c }))
+    text-made h a b c = made text words (E.RawString raw) (here .place) (place-some text (s .start) (h .place))
+        (record { order = a; inside = h .fits .inside; starts = b; ends = h .fits .ends; escapes = c })
 
-    abbrev textStep : Element → Stage → Bool → Step
-    textStep x g l = record { gapped = false; gap = x; back = Back.Kept; act = A.Add y; marks = marksBehind g (s .end) (m .«omit_pro_ws») l; here = here; next = s .number + 1 }
-
-    pub text-step : {gap : Bool} (x : Element) → s .tag ≡ 2 → start ≡ m .«end_pos» → badEscapes text start (ownEscapes words s) ≡ false
-        → KindIs text words o v s gap here (Vis.Step (textStep x G.Filling false))
+    pub text-step : {gap : Bool} → s .tag ≡ 2 → start ≡ m .«end_pos» → badEscapes text start (ownEscapes words s) ≡ false
+        → KindIs text words o v s gap here (Vis.Step (textStep v s here start G.Filling false))
     unfolding K.kinds plainNests plainStep applied withMarks
-    text-step {gap} x e b c = record {
+    text-step {gap} e b c = record {
       means = λ st h.
           let n : start ≡ prevEnd st = b ∙ h .tells .marks .previous in
           let g : st .stage ≡ S.filling = filling (st .stage) (subst (λ t. nests (kindOf t) gap st ≡ true) e (h .nested)) in
@@ -261,10 +283,10 @@ module _ (text : Bytes) (words : List ℕ) (o : Options) (v : View) (s : Span) (
           };
     }
 
-    pub raw-step : {gap : Bool} (x : Element) → s .tag ≡ 3 → start ≡ s .start → badEscapes text start (ownEscapes words s) ≡ false
-        → KindIs text words o v s gap here (Vis.Step (textStep x G.Full (m .«trim_line_required»)))
+    pub raw-step : {gap : Bool} → s .tag ≡ 3 → start ≡ s .start → badEscapes text start (ownEscapes words s) ≡ false
+        → KindIs text words o v s gap here (Vis.Step (textStep v s here start G.Full (m .«trim_line_required»)))
     unfolding K.kinds plainStep applied withMarks
-    raw-step {gap} x e b c = record {
+    raw-step {gap} e b c = record {
       means = λ st h. record {
         makes = plain-makes K.rawBlockText (ap kindOf e) st (ap (λ z. badEscapes text z (ownEscapes words s)) (sym b) ∙ c)
             (state-as refl (ap (λ z. addTo z (st .top)) (sym (text-leaf K.rawBlockText (h .place) (h .tells .marks) b)) ∙ ap (addTo (leafMeans text words y)) (sym (trim-kept (st .top)))) refl refl (sym (h .tells .marks .omitProWs)) (sym (h .tells .marks .trimLine)));

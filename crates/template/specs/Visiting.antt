@@ -9,19 +9,21 @@ use Rattle.support.specs.Utf8.{isCharBoundary}
 use Rattle.support.specs.Position.{placeAt, placeOf, lineCol}
 use Rattle.support.specs.declared.position.Place as code
 use Rattle.json_path.specs.Span.{Span, spanCount, spansFrom}
-use Rattle.expression.specs.Expression.{asName, nameOf}
+use Rattle.expression.specs.Expression.{Expression, asName, nameOf}
 use Rattle.expression.specs.Answers.{paramMeans}
+use Rattle.expression.specs.declared.parameter.AsName.{AsName}
 use Rattle.template.specs.Kind as K
 use Rattle.template.specs.Kind.{Tag, tagged, kindOf}
 use Rattle.template.specs.State as S
-use Rattle.template.specs.State.{State, prevEnd}
+use Rattle.template.specs.State.{State, prevEnd, openCount}
 use Rattle.template.specs.Result.{accepted, refused}
 use Rattle.template.specs.Nests.{keptGap, nests}
-use Rattle.template.specs.Refusal.{tooManyOpen}
+use Rattle.template.specs.Refusal.{tooManyOpen, helperNameDiffers, decoratorNameDiffers}
 use Rattle.template.specs.Step.{tagStep}
 use Rattle.template.specs.Walk.{walkKind}
-use Rattle.template.specs.Element.{callAt, newElement}
+use Rattle.template.specs.Element.{callAt, newElement, emptyElement}
 use Rattle.template.specs.TagRead.{tagMeans}
+use Rattle.template.specs.Asked.{NamesAre}
 use Rattle.template.specs.Visit.{stageMeans, withMarks, HereIs, Tells, applied, GapMade, Allowed}
 use Rattle.template.specs.declared.element.Front.{Front}
 use Rattle.template.specs.declared.element.Front.the-variants as Front
@@ -30,9 +32,12 @@ use Rattle.template.specs.declared.element.Back.the-variants as Back
 use Rattle.template.specs.declared.element.RawString.{RawString}
 use Rattle.template.specs.declared.element.HelperTemplate.{HelperTemplate}
 use Rattle.template.specs.declared.element.DecoratorTemplate.{DecoratorTemplate}
+use Rattle.template.specs.declared.element.TemplateElement.{TemplateElement}
 use Rattle.template.specs.declared.element.TemplateElement.the-variants as E
+use Rattle.template.specs.declared.element.Element.{Element}
 use Rattle.template.specs.declared.frame.Marks.{Marks}
 use Rattle.template.specs.declared.frame.Stage.{Stage}
+use Rattle.template.specs.declared.frame.Opened.{Opened}
 use Rattle.template.specs.declared.frame.Opened.the-variants as O
 use Rattle.template.specs.declared.tag.TagExpression.{TagExpression}
 use Rattle.template.specs.declared.visit.Options.{Options}
@@ -91,6 +96,15 @@ module _ (text : Bytes) (words : List ℕ) where
     pub previous : (st : State) → p .marks .«end_pos» ≡ prevEnd (withMarks (p .marks) st)
     pub next : p .next ≡ x .next
 
+  -- r is such a step
+  abbrev pub tagStepMeans : Options → View → Span → TagExpression → Bool → Here → Visit → Type 0
+  tagStepMeans o v s x gap here (Vis.Refused f) = ⊥
+  tagStepMeans o v s x gap here Vis.End = ⊥
+  tagStepMeans o v s x gap here (Vis.Step p) = TagMakes o v s x gap here p
+
+  pub record TagStepIs (o : Options) (v : View) (s : Span) (x : TagExpression) (gap : Bool) (here : Here) (r : Visit) : Type 0 where
+    pub means : tagStepMeans o v s x gap here r
+
 -- ---- what a step is made of
 
 -- r is the place of a later offset
@@ -109,6 +123,22 @@ rawFront m = if (m .«omit_pro_ws») Front.White (frontOf m)
 -- the gap before s as a text; no escapes are listed at the count
 abbrev pub gapText : List ℕ → Marks → Span → RawString
 gapText words m s = record { start = m .«end_pos»; end = s .start; escapes = spanCount words; front = frontOf m; back = Back.Kept }
+
+-- the text of tag 2 or 3 from `start` on, and its step with this stage and line mark behind it
+
+abbrev pub textElement : View → Span → ℕ → code.Place → Element
+textElement v s start p = newElement (E.RawString (record { start = start; end = s .end; escapes = s .number + 1; front = rawFront (v .marks); back = Back.Kept })) p
+
+abbrev pub textStep : View → Span → Here → ℕ → Stage → Bool → Step
+textStep v s here start g l = record {
+  gapped = false;
+  gap = emptyElement;
+  back = Back.Kept;
+  act = A.Add (textElement v s start (here .place));
+  marks = record { stage = g; «end_pos» = s .end; started = true; «omit_pro_ws» = v .marks .«omit_pro_ws»; «trim_line_required» = l };
+  here = here;
+  next = s .number + 1;
+}
 
 -- how the last text is trimmed: by a left tilde, or by the standalone test
 abbrev pub trimOf : Bool → Bool → Back
@@ -154,19 +184,48 @@ helperOf x s mark = record { name = x .name; from = x .from; limit = s .end; «i
 abbrev pub decoratorOf : TagExpression → Span → Bool → Bool → DecoratorTemplate
 decoratorOf x s mark indent = record { name = x .name; from = x .from; limit = s .end; «indent_before_write» = mark; indent = indent; start = s .start }
 
--- what a tag that has read x does after its gap and trims
-abbrev pub actFor : Tag → Span → TagExpression → code.Place → Bool → Bool → Act
-actFor (K.blockStart K.helperBlock) s x p mark indent = A.Begin (newElement (E.HelperBlock (helperOf x s mark)) p) O.Helper
-actFor (K.blockStart K.rawBlock) s x p mark indent = A.Begin (newElement (E.HelperBlock (helperOf x s mark)) p) O.Raw
-actFor (K.blockStart K.decoratorBlock) s x p mark indent = A.Begin (newElement (E.DecoratorBlock (decoratorOf x s mark false)) p) O.Decorator
-actFor (K.blockStart K.partialBlock) s x p mark indent = A.Begin (newElement (E.PartialBlock (decoratorOf x s mark false)) p) O.Partial
-actFor K.invertTag s x p mark indent = A.Else
-actFor K.invertChainTag s x p mark indent = A.Chain (newElement (E.HelperBlock (helperOf x s mark)) p)
-actFor K.expression s x p mark indent = A.Add (newElement (E.Expression (helperOf x s false)) p)
-actFor K.htmlExpression s x p mark indent = A.Add (newElement (E.HtmlExpression (helperOf x s false)) p)
-actFor K.decoratorExpression s x p mark indent = A.Add (newElement (E.DecoratorExpression (decoratorOf x s mark false)) p)
-actFor K.partialExpression s x p mark indent = A.Add (newElement (E.PartialExpression (decoratorOf x s mark indent)) p)
-actFor (K.blockEnd k) s x p mark indent = A.Close
+-- the element that a tag makes that has read x
+abbrev pub elementFor : Tag → Span → TagExpression → Bool → Bool → TemplateElement
+elementFor (K.blockStart K.helperBlock) s x mark indent = E.HelperBlock (helperOf x s mark)
+elementFor (K.blockStart K.rawBlock) s x mark indent = E.HelperBlock (helperOf x s mark)
+elementFor (K.blockStart K.decoratorBlock) s x mark indent = E.DecoratorBlock (decoratorOf x s mark indent)
+elementFor (K.blockStart K.partialBlock) s x mark indent = E.PartialBlock (decoratorOf x s mark indent)
+elementFor K.invertTag s x mark indent = E.Empty
+elementFor K.invertChainTag s x mark indent = E.HelperBlock (helperOf x s mark)
+elementFor K.expression s x mark indent = E.Expression (helperOf x s mark)
+elementFor K.htmlExpression s x mark indent = E.HtmlExpression (helperOf x s mark)
+elementFor K.decoratorExpression s x mark indent = E.DecoratorExpression (decoratorOf x s mark indent)
+elementFor K.partialExpression s x mark indent = E.PartialExpression (decoratorOf x s mark indent)
+elementFor (K.blockEnd k) s x mark indent = E.Empty
+
+-- whose body a block start opens
+abbrev pub beginOf : K.BlockKind → Opened
+beginOf K.helperBlock = O.Helper
+beginOf K.rawBlock = O.Raw
+beginOf K.decoratorBlock = O.Decorator
+beginOf K.partialBlock = O.Partial
+
+-- what a tag does with its element after its gap and trims
+abbrev pub actFor : Tag → Element → Act
+actFor (K.blockStart k) e = A.Begin e (beginOf k)
+actFor K.invertTag e = A.Else
+actFor K.invertChainTag e = A.Chain e
+actFor K.expression e = A.Add e
+actFor K.htmlExpression e = A.Add e
+actFor K.decoratorExpression e = A.Add e
+actFor K.partialExpression e = A.Add e
+actFor (K.blockEnd k) e = A.Close
+
+-- tag 14 keeps the blanks before it as indent, unless it is prevented or there is a left tilde
+abbrev pub indentOf : Tag → Bool → Bool → Bool
+indentOf (K.blockStart k) prevent left = false
+indentOf K.invertTag prevent left = false
+indentOf K.invertChainTag prevent left = false
+indentOf K.expression prevent left = false
+indentOf K.htmlExpression prevent left = false
+indentOf K.decoratorExpression prevent left = false
+indentOf K.partialExpression prevent left = not prevent && not left
+indentOf (K.blockEnd k) prevent left = false
 
 -- r is that of the tag, whatever tag it is
 
@@ -179,5 +238,21 @@ pub record LineIs (tag : ℕ) (alone line r : Bool) : Type 0 where
 pub record StageIs (tag : ℕ) (r : Stage) : Type 0 where
   pub means : (k : Tag) → kindOf tag ≡ tagged k → stageMeans r ≡ stageBehind k
 
-pub record ActIs (s : Span) (x : TagExpression) (p : code.Place) (mark indent : Bool) (r : Act) : Type 0 where
-  pub means : (k : Tag) → kindOf (s .tag) ≡ tagged k → r ≡ actFor k s x p mark indent
+pub record ElementIs (s : Span) (x : TagExpression) (mark indent : Bool) (r : TemplateElement) : Type 0 where
+  pub means : (k : Tag) → kindOf (s .tag) ≡ tagged k → r ≡ elementFor k s x mark indent
+
+pub record BeginIs (tag : ℕ) (r : Opened) : Type 0 where
+  pub means : (k : K.BlockKind) → kindOf tag ≡ tagged (K.blockStart k) → r ≡ beginOf k
+
+pub record ActIs (tag : ℕ) (e : Element) (r : Act) : Type 0 where
+  pub means : (k : Tag) → kindOf tag ≡ tagged k → r ≡ actFor k e
+
+pub record IndentIs (tag : ℕ) (prevent left r : Bool) : Type 0 where
+  pub means : (k : Tag) → kindOf tag ≡ tagged k → r ≡ indentOf k prevent left
+
+-- 12, 10 or 11, in this order, or 0 for none
+abbrev pub refusalOf : Tag → State → Expression → ℕ
+refusalOf k st x = if (tooManyOpen k st) 12 (if (helperNameDiffers k st x) 10 (if (decoratorNameDiffers k st x) 11 0))
+
+pub record RefusalIs (text : Bytes) (tag count : ℕ) (opened end : AsName) (r : ℕ) : Type 0 where
+  pub means : (k : Tag) (st : State) (x : Expression) → kindOf tag ≡ tagged k → count ≡ openCount st → NamesAre text opened end st x → r ≡ refusalOf k st x

@@ -44,7 +44,7 @@ ghost use Rattle.template.specs.Checks.{maxSpans};
 ghost use Rattle.template.specs.Step.{afterGap, standalone};
 ghost use Rattle.template.specs.Element.{Good, newElement};
 ghost use Rattle.template.specs.Visit.{stageMeans, VisitIs};
-ghost use Rattle.template.specs.Visiting.{KindIs, TagMakes, AdvanceIs, frontOf, rawFront, gapText, trimOf, helperOf, decoratorOf, CutIs, LineIs, StageIs, ActIs};
+ghost use Rattle.template.specs.Visiting.{KindIs, TagStepIs, AdvanceIs, frontOf, rawFront, gapText, textElement, textStep, trimOf, helperOf, decoratorOf, CutIs, LineIs, StageIs, ElementIs, BeginIs, ActIs, IndentIs, RefusalIs};
 
 pub struct Options {
     pub prevent_indent: bool,
@@ -102,6 +102,28 @@ fn refused(number: u32, place: usize) -> Visit
     Visit::Refused(Refusal {
         number: number,
         place: place,
+    })
+}
+
+fn step_as(
+    gapped: bool,
+    gap: Element,
+    back: Back,
+    act: Act,
+    marks: Marks,
+    here: Here,
+    next: usize,
+) -> Visit
+    ensures { λ r. ⌜ r ≡ Visit.Step (record { gapped = gapped; gap = gap; back = back; act = act; marks = marks; here = here; next = next }) ⌝ }
+{
+    Visit::Step(Step {
+        gapped: gapped,
+        gap: gap,
+        back: back,
+        act: act,
+        marks: marks,
+        here: here,
+        next: next,
     })
 }
 
@@ -168,21 +190,21 @@ fn skipped(words: &[u32], v: View, s: Span, gap: bool, here: Here) -> Visit
 {
     let m = v.marks;
     let g = m.stage;
-    Visit::Step(Step {
-        gapped: gap,
-        gap: gap_of(words, m, s, here.place),
-        back: Back::Kept,
-        act: Act::Skip,
-        marks: Marks {
+    step_as(
+        gap,
+        gap_of(words, m, s, here.place),
+        Back::Kept,
+        Act::Skip,
+        Marks {
             stage: stage_after_gap(g, gap),
             end_pos: s.end,
             started: true,
             omit_pro_ws: m.omit_pro_ws,
             trim_line_required: but_not(m.trim_line_required, gap),
         },
-        here: here,
-        next: s.number + 1,
-    })
+        here,
+        s.number + 1,
+    )
 }
 
 // A template span gives the body that is waited for; it does not become the previous one.
@@ -192,21 +214,21 @@ fn template(v: View, s: Span) -> Visit
 {
     let m = v.marks;
     let here = v.here;
-    Visit::Step(Step {
-        gapped: false,
-        gap: Element::EMPTY,
-        back: Back::Kept,
-        act: Act::Skip,
-        marks: Marks {
+    step_as(
+        false,
+        Element::EMPTY,
+        Back::Kept,
+        Act::Skip,
+        Marks {
             stage: Stage::Filling,
             end_pos: m.end_pos,
             started: m.started,
             omit_pro_ws: m.omit_pro_ws,
             trim_line_required: m.trim_line_required,
         },
-        here: here,
-        next: s.number + 1,
-    })
+        here,
+        s.number + 1,
+    )
 }
 
 fn raw_front(m: Marks) -> Front
@@ -221,7 +243,7 @@ fn raw_front(m: Marks) -> Front
 // The text of tag 2, from the previous end, or 3, its own span.
 fn text_of(v: View, s: Span, start: usize, place: Place) -> Element
     requires { ⌜ s .number < maxSpans ⌝ }
-    ensures { λ r. ⌜ r ≡ newElement (TemplateElement.RawString (record { start = start; end = s .end; escapes = s .number + 1; front = rawFront (v .marks); back = Back.Kept })) place ⌝ }
+    ensures { λ r. ⌜ r ≡ textElement v s start place ⌝ }
 {
     let m = v.marks;
     Element::new(
@@ -236,6 +258,29 @@ fn text_of(v: View, s: Span, start: usize, place: Place) -> Element
     )
 }
 
+// The step of a text; behind it this stage and this line mark.
+fn text_step(v: View, s: Span, start: usize, here: Here, stage: Stage, line: bool) -> Visit
+    requires { ⌜ s .number < maxSpans ⌝ }
+    ensures { λ r. ⌜ r ≡ Visit.Step (textStep v s here start stage line) ⌝ }
+{
+    let m = v.marks;
+    step_as(
+        false,
+        Element::EMPTY,
+        Back::Kept,
+        Act::Add(text_of(v, s, start, here.place)),
+        Marks {
+            stage: stage,
+            end_pos: s.end,
+            started: true,
+            omit_pro_ws: m.omit_pro_ws,
+            trim_line_required: line,
+        },
+        here,
+        s.number + 1,
+    )
+}
+
 // The text of tag 2 begins at the previous end.
 fn raw_string(text: &[u8], words: &[u32], v: View, s: Span, here: Here) -> Visit
     requires { ⌜ s .tag ≡ 2 ⌝ ∗ ⌜ s .number < maxSpans ⌝ }
@@ -245,21 +290,7 @@ fn raw_string(text: &[u8], words: &[u32], v: View, s: Span, here: Here) -> Visit
     if bad_escapes(text, words, m.end_pos, s.end, s.number + 1) {
         return refused(13, s.number);
     }
-    Visit::Step(Step {
-        gapped: false,
-        gap: Element::EMPTY,
-        back: Back::Kept,
-        act: Act::Add(text_of(v, s, m.end_pos, here.place)),
-        marks: Marks {
-            stage: Stage::Filling,
-            end_pos: s.end,
-            started: true,
-            omit_pro_ws: m.omit_pro_ws,
-            trim_line_required: false,
-        },
-        here: here,
-        next: s.number + 1,
-    })
+    text_step(v, s, m.end_pos, here, Stage::Filling, false)
 }
 
 // That of tag 3 is its own span; a raw body takes nothing more.
@@ -271,21 +302,7 @@ fn raw_block_text(text: &[u8], words: &[u32], v: View, s: Span, here: Here) -> V
     if bad_escapes(text, words, s.start, s.end, s.number + 1) {
         return refused(13, s.number);
     }
-    Visit::Step(Step {
-        gapped: false,
-        gap: Element::EMPTY,
-        back: Back::Kept,
-        act: Act::Add(text_of(v, s, s.start, here.place)),
-        marks: Marks {
-            stage: Stage::Full,
-            end_pos: s.end,
-            started: true,
-            omit_pro_ws: m.omit_pro_ws,
-            trim_line_required: m.trim_line_required,
-        },
-        here: here,
-        next: s.number + 1,
-    })
+    text_step(v, s, s.start, here, Stage::Full, m.trim_line_required)
 }
 
 // An empty line starts after the tag, or nothing at all follows and it is no partial.
@@ -340,21 +357,21 @@ fn comment(text: &[u8], words: &[u32], o: Options, v: View, s: Span, gap: bool, 
         }),
         here.place,
     );
-    Visit::Step(Step {
-        gapped: gap,
-        gap: gap_of(words, m, s, here.place),
-        back: trim_of(false, standalone),
-        act: Act::Add(e),
-        marks: Marks {
+    step_as(
+        gap,
+        gap_of(words, m, s, here.place),
+        trim_of(false, standalone),
+        Act::Add(e),
+        Marks {
             stage: stage_after_gap(g, gap),
             end_pos: s.end,
             started: true,
             omit_pro_ws: m.omit_pro_ws,
             trim_line_required: standalone,
         },
-        here: here,
-        next: s.number + 1,
-    })
+        here,
+        s.number + 1,
+    )
 }
 
 fn helper(x: TagExpression, s: Span, indent: bool) -> HelperTemplate
@@ -383,49 +400,60 @@ fn decorator(x: TagExpression, s: Span, mark: bool, indent: bool) -> DecoratorTe
     }
 }
 
-// What a block start or an else-if does.
-fn begin_of(s: Span, x: TagExpression, place: Place, mark: bool) -> Act
-    ensures { λ r. ⌜ ((indent : Bool) → 5 ≤ s .tag → s .tag ≤ 10 → ActIs s x place mark indent r) ⌝ }
+// The element that a tag makes; `mark`: the indent mark, `indent`: blanks are kept.
+fn element_of(s: Span, x: TagExpression, mark: bool, indent: bool) -> TemplateElement
+    ensures { λ r. ⌜ ElementIs s x mark indent r ⌝ }
 {
-    let h = Element::new(TemplateElement::HelperBlock(helper(x, s, mark)), place);
-    let d = decorator(x, s, mark, false);
+    let h = helper(x, s, mark);
+    let d = decorator(x, s, mark, indent);
     let tag = s.tag;
     match tag {
-        5 => Act::Begin(h, Opened::Helper),
-        6 => Act::Begin(h, Opened::Raw),
-        7 => Act::Begin(
-            Element::new(TemplateElement::DecoratorBlock(d), place),
-            Opened::Decorator,
-        ),
-        8 => Act::Begin(
-            Element::new(TemplateElement::PartialBlock(d), place),
-            Opened::Partial,
-        ),
-        9 => Act::Else,
-        _ => Act::Chain(h),
+        5..=6 => TemplateElement::HelperBlock(h),
+        7 => TemplateElement::DecoratorBlock(d),
+        8 => TemplateElement::PartialBlock(d),
+        10 => TemplateElement::HelperBlock(h),
+        11 => TemplateElement::Expression(h),
+        12 => TemplateElement::HtmlExpression(h),
+        13 => TemplateElement::DecoratorExpression(d),
+        14 => TemplateElement::PartialExpression(d),
+        _ => TemplateElement::Empty,
     }
 }
 
-// What a tag does after its gap and trims; `mark`: the indent mark, `indent`: blanks are kept.
-fn act_of(s: Span, x: TagExpression, place: Place, mark: bool, indent: bool) -> Act
-    requires { ⌜ 5 ≤ s .tag ⌝ ∗ ⌜ s .tag ≤ 18 ⌝ }
-    ensures { λ r. ⌜ ActIs s x place mark indent r ⌝ }
+// Whose body a block start opens.
+fn opened_of(tag: u32) -> Opened
+    requires { ⌜ 5 ≤ tag ⌝ ∗ ⌜ tag ≤ 8 ⌝ }
+    ensures { λ r. ⌜ BeginIs tag r ⌝ }
 {
-    let h = helper(x, s, false);
-    let tag = s.tag;
     match tag {
-        5..=10 => begin_of(s, x, place, mark),
-        11 => Act::Add(Element::new(TemplateElement::Expression(h), place)),
-        12 => Act::Add(Element::new(TemplateElement::HtmlExpression(h), place)),
-        13 => Act::Add(Element::new(
-            TemplateElement::DecoratorExpression(decorator(x, s, mark, false)),
-            place,
-        )),
-        14 => Act::Add(Element::new(
-            TemplateElement::PartialExpression(decorator(x, s, mark, indent)),
-            place,
-        )),
+        5 => Opened::Helper,
+        6 => Opened::Raw,
+        7 => Opened::Decorator,
+        _ => Opened::Partial,
+    }
+}
+
+// What a tag does with its element after its gap and trims.
+fn act_of(tag: u32, e: Element) -> Act
+    requires { ⌜ 5 ≤ tag ⌝ ∗ ⌜ tag ≤ 18 ⌝ }
+    ensures { λ r. ⌜ ActIs tag e r ⌝ }
+{
+    match tag {
+        5..=8 => Act::Begin(e, opened_of(tag)),
+        9 => Act::Else,
+        10 => Act::Chain(e),
+        11..=14 => Act::Add(e),
         _ => Act::Close,
+    }
+}
+
+// Tag 14 keeps the blanks before it as indent.
+fn is_indented(tag: u32, prevent_indent: bool, left: bool) -> bool
+    ensures { λ r. ⌜ IndentIs tag «prevent_indent» left r ⌝ }
+{
+    match tag {
+        14 => !prevent_indent && !left,
+        _ => false,
     }
 }
 
@@ -469,34 +497,49 @@ fn step_of(
     x: TagExpression,
     gap: bool,
     here: Here,
-) -> Step
+) -> Visit
     requires { ⌜ 5 ≤ s .tag ⌝ ∗ ⌜ s .tag ≤ 18 ⌝ }
-    ensures { λ r. ⌜ TagMakes (now (text .entry)) (now (words .entry)) o v s x gap here r ⌝ }
+    ensures { λ r. ⌜ TagStepIs (now (text .entry)) (now (words .entry)) o v s x gap here r ⌝ }
 {
     let m = v.marks;
     let g = m.stage;
     let standalone = process_standalone_statement(text, s, o.is_partial);
-    let place = here.place;
-    let after = stage_after_gap(g, gap);
     let line = but_not(m.trim_line_required, gap);
     let mark = but_not(standalone, x.omit_pre_ws);
-    let indent = but_not(!o.prevent_indent, x.omit_pre_ws);
+    let indent = is_indented(s.tag, o.prevent_indent, x.omit_pre_ws);
     let cut = is_cut(s.tag, standalone, o.prevent_indent);
-    Step {
-        gapped: gap,
-        gap: gap_of(words, m, s, place),
-        back: trim_of(x.omit_pre_ws, cut),
-        act: act_of(s, x, place, mark, indent),
-        marks: Marks {
+    let e = Element::new(element_of(s, x, mark, indent), here.place);
+    step_as(
+        gap,
+        gap_of(words, m, s, here.place),
+        trim_of(x.omit_pre_ws, cut),
+        act_of(s.tag, e),
+        Marks {
             stage: stage_of(s.tag),
             end_pos: s.end,
             started: true,
             omit_pro_ws: x.omit_pro_ws,
             trim_line_required: line_mark(s.tag, standalone, line),
         },
-        here: here,
-        next: x.next,
+        here,
+        x.next,
+    )
+}
+
+// 12, 10 or 11, in this order, or 0 for none.
+fn refusal_of(text: &[u8], tag: u32, count: usize, opened: AsName, end: AsName) -> u32
+    ensures { λ r. ⌜ RefusalIs (now (text .entry)) tag count opened end r ⌝ }
+{
+    if too_many_open(tag, count) {
+        return 12;
     }
+    if helper_name_differs(text, tag, opened, end) {
+        return 10;
+    }
+    if decorator_name_differs(text, tag, opened, end) {
+        return 11;
+    }
+    0
 }
 
 // 8, 9 and 12 as met, open blocks last; 10, 11.
@@ -511,16 +554,11 @@ fn tagged(text: &[u8], words: &[u32], o: Options, v: View, s: Span, gap: bool, h
             let name = x.name;
             let end = name.as_name();
             let opened = v.name;
-            if too_many_open(s.tag, v.count) {
-                return refused(12, s.number);
+            let n = refusal_of(text, s.tag, v.count, opened, end);
+            if n != 0 {
+                return refused(n, s.number);
             }
-            if helper_name_differs(text, s.tag, opened, end) {
-                return refused(10, s.number);
-            }
-            if decorator_name_differs(text, s.tag, opened, end) {
-                return refused(11, s.number);
-            }
-            Visit::Step(step_of(text, words, o, v, s, x, gap, here))
+            step_of(text, words, o, v, s, x, gap, here)
         }
     }
 }

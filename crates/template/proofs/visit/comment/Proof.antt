@@ -22,21 +22,24 @@ trim-of-requires c κs = search needs
 stage-after-gap-requires : tie.Need-stage-after-gap-requires
 stage-after-gap-requires c κs = search needs
 
-add-t20 : tie.Need-add-t20
-add-t20 c =
+add-step-as : tie.Need-add-step-as
+add-step-as c =
     let pre = c .before .before .before .before .before .before .before .before .before .before .pre in
     omega (arith, pre .1 .1)
 
+step-as-requires : tie.Need-step-as-requires
+step-as-requires c κs = search needs
+
 returns : tie.Need-returns
 returns c =
-    let a = c .before .before .before .before .before .before .before .before .before .before .args in
-    let gap-of = c .before .before .before .gap-of in
-    let process-standalone-statement = c .before .before .before .before .before .before .process-standalone-statement in
-    let new = c .before .before .before .before .new in
-    let pre = c .before .before .before .before .before .before .before .before .before .before .pre in
-    laws.comment-step (a .text .now) (a .words .now) (a .o) (a .v) (a .s) (a .here) (c .before .stage-after-gap .result) (a .gap) (gap-of .ensures)
-    (c .before .stage-after-gap .ensures) refl (process-standalone-statement .ensures) (new .result) (eqb (a .s .tag) 19)
-    (c .before .before .trim-of .ensures) (pre .0) (pre .1 .0) refl (new .ensures)
+    let a = c .before .before .before .before .before .before .before .before .before .before .before .args in
+    let gap-of = c .before .before .before .before .gap-of in
+    let process-standalone-statement = c .before .before .before .before .before .before .before .process-standalone-statement in
+    let new = c .before .before .before .before .before .new in
+    let trim-of = c .before .before .before .trim-of in
+    let pre = c .before .before .before .before .before .before .before .before .before .before .before .pre in
+    laws.kind-as (a .text .now) (a .words .now) (a .o) (a .v) (a .s) (a .here) (c .step-as .ensures)
+    (laws.comment-step (a .text .now) (a .words .now) (a .o) (a .v) (a .s) (a .here) (c .before .before .stage-after-gap .result) (a .gap) (gap-of .ensures) (c .before .before .stage-after-gap .ensures) refl (process-standalone-statement .ensures) (new .result) (eqb (a .s .tag) 19) (trim-of .ensures) (pre .0) (pre .1 .0) refl (new .ensures))
 
 pub comment-spec : {M : Type 1} → statement M
 comment-spec =
@@ -47,5 +50,6 @@ comment-spec =
     gap-of-requires
     trim-of-requires
     stage-after-gap-requires
-    add-t20
+    add-step-as
+    step-as-requires
     returns)

@@ -2,7 +2,6 @@
 use native.Mathlib.Omega.{arith}
 use mathlib.Core.Path.{refl, sym, _∙_}
 use borrow.Author.Needs.{needs}
-use Rattle.template.specs.Element.{emptyElement}
 use Rattle.template.proofs.VisitLaws as laws
 use Rattle.template.proofs.visit.raw_string.Statement.{statement}
 use Rattle.template.proofs.visit.raw_string.Tie as tie
@@ -25,19 +24,15 @@ returns c =
     λ o gap. laws.text-bad (a .text .now) (a .words .now) o (a .v) (a .s) (a .here) {gap = gap} (a .v .marks .«end_pos») (pre .0) refl
     (sym (c .before .before .bad-escapes .ensures) ∙ c .before .if1 .taken) (c .refused .ensures)
 
-text-of-requires : tie.Need-text-of-requires
-text-of-requires c κs = search needs
-
-add-t8 : tie.Need-add-t8
-add-t8 c = search needs
+text-step-requires : tie.Need-text-step-requires
+text-step-requires c κs = search needs
 
 returns-2 : tie.Need-returns-2
 returns-2 c =
-    let a = c .before .before .before .before .before .before .before .before .args in
-    let pre = c .before .before .before .before .before .before .before .before .pre in
-    let bad-escapes = c .before .before .before .bad-escapes in
-    λ o gap. laws.text-step (a .text .now) (a .words .now) o (a .v) (a .s) (a .here) refl (a .v .marks .«end_pos») (c .before .text-of .ensures)
-    {gap = gap} emptyElement (pre .0) refl (sym (bad-escapes .ensures) ∙ c .before .before .if1 .left)
+    let a = c .before .before .before .before .before .before .before .args in
+    let pre = c .before .before .before .before .before .before .before .pre in
+    λ o gap. laws.kind-as (a .text .now) (a .words .now) o (a .v) (a .s) (a .here) (c .text-step .ensures)
+    (laws.text-step (a .text .now) (a .words .now) o (a .v) (a .s) (a .here) (a .v .marks .«end_pos») {gap = gap} (pre .0) refl (sym (c .before .before .bad-escapes .ensures) ∙ c .before .if1 .left))
 
 pub raw-string-spec : {M : Type 1} → statement M
 raw-string-spec =
@@ -47,6 +42,5 @@ raw-string-spec =
     bad-escapes-requires
     refused-requires
     returns
-    text-of-requires
-    add-t8
+    text-step-requires
     returns-2)
