@@ -19,8 +19,7 @@ use Rattle.listing.specs.Tree as T
 use Rattle.listing.specs.Listing.{bit, placeField, indentField, callForms, itemForm}
 use Rattle.listing.specs.Children.{decoratorChildren, helperChildren}
 use Rattle.listing.specs.Written.{largest, Written}
-use Rattle.listing.proofs.Writes.{written-none, written-then, written-length}
-use Rattle.listing.proofs.PathWrites.{three}
+use Rattle.listing.proofs.Writes.{written-none}
 use Rattle.template.specs.Step.{anyBlanks}
 use Rattle.template.specs.Element.{placeMeans, linkOf, rawMeans, commentMeans, callAt, indentMeans, itemMeans, headMeans, headAt, wrapMeans, nothing, roleOf, RawGood, Sound}
 use Rattle.template.specs.Opening.{blockOpening, wrapOpening, decoratedBytes, openingBy, opening}
@@ -157,38 +156,41 @@ module _ (text : Bytes) (words : List ℕ) (e : Element) {l m : Bytes} {at r : �
   unfolding openingBy headMeans
   block-written t w = told-written text words e t w
 
-module _ (text : Bytes) (words : List ℕ) (e : Element) {l m n : Bytes} {at p : ℕ} (g : length l ≤ largest) where
-  -- an expression, from its word and what follows
-  module _ {r : ℕ} {h : HelperTemplate} (w : Written (writeField (placeField (placeMeans (e .place))) ++ (ascii "\n" ++ (writeForms (helperChildren text words (linkOf (h .from) (h .limit))) ++ ascii "]\n"))) m p n r) where
-    pub expr-written : e .element ≡ E.Expression h → Written (ascii "[expr ") l at m p → Written (opening text words e) l at n r
-    unfolding openingBy itemMeans itemForm writeForm helperChildren
-    expr-written t a = told-written text words e t (rw (head-one Word.expr (placeField (placeMeans (e .place))) _) (written-then g a w))
+  pub expr-written : {h : HelperTemplate} → e .element ≡ E.Expression h
+      → Written (ascii "[expr " ++ (writeField (placeField (placeMeans (e .place))) ++ (ascii "\n" ++ (writeForms (helperChildren text words (linkOf (h .from) (h .limit))) ++ ascii "]\n")))) l at m r
+      → Written (opening text words e) l at m r
+  unfolding openingBy itemMeans itemForm writeForm helperChildren
+  expr-written t w = told-written text words e t (rw (head-one Word.expr (placeField (placeMeans (e .place))) _) w)
 
-    pub html-written : e .element ≡ E.HtmlExpression h → Written (ascii "[html ") l at m p → Written (opening text words e) l at n r
-    unfolding openingBy itemMeans itemForm writeForm helperChildren
-    html-written t a = told-written text words e t (rw (head-one Word.html (placeField (placeMeans (e .place))) _) (written-then g a w))
+  pub html-written : {h : HelperTemplate} → e .element ≡ E.HtmlExpression h
+      → Written (ascii "[html " ++ (writeField (placeField (placeMeans (e .place))) ++ (ascii "\n" ++ (writeForms (helperChildren text words (linkOf (h .from) (h .limit))) ++ ascii "]\n")))) l at m r
+      → Written (opening text words e) l at m r
+  unfolding openingBy itemMeans itemForm writeForm helperChildren
+  html-written t w = told-written text words e t (rw (head-one Word.html (placeField (placeMeans (e .place))) _) w)
 
-  -- a decorator or a partial, from its word, what follows and its end
-  module _ {k : Bytes} {q s : ℕ} {d : DecoratorTemplate} (w : Written (decoratedBytes text words (placeMeans (e .place)) d) m p n q) where
-    pub decor-written : e .element ≡ E.DecoratorExpression d → Written (ascii "[decor ") l at m p → Written (ascii "]\n") n q k s
-        → Written (opening text words e) l at k s
-    unfolding openingBy itemMeans itemForm writeForm
-    decor-written t a b = told-written text words e t (rw (decorated-bytes text words Word.decor (placeMeans (e .place)) d (ascii "]\n")) (three g a w b))
+  pub decor-written : {d : DecoratorTemplate} → e .element ≡ E.DecoratorExpression d
+      → Written (ascii "[decor " ++ (decoratedBytes text words (placeMeans (e .place)) d ++ ascii "]\n")) l at m r
+      → Written (opening text words e) l at m r
+  unfolding openingBy itemMeans itemForm writeForm
+  decor-written {d} t w = told-written text words e t (rw (decorated-bytes text words Word.decor (placeMeans (e .place)) d (ascii "]\n")) w)
 
-    pub partial-written : e .element ≡ E.PartialExpression d → Written (ascii "[partial ") l at m p → Written (ascii "]\n") n q k s
-        → Written (opening text words e) l at k s
-    unfolding openingBy itemMeans itemForm writeForm
-    partial-written t a b = told-written text words e t (rw (decorated-bytes text words Word.partial (placeMeans (e .place)) d (ascii "]\n")) (three g a w b))
+  pub partial-written : {d : DecoratorTemplate} → e .element ≡ E.PartialExpression d
+      → Written (ascii "[partial " ++ (decoratedBytes text words (placeMeans (e .place)) d ++ ascii "]\n")) l at m r
+      → Written (opening text words e) l at m r
+  unfolding openingBy itemMeans itemForm writeForm
+  partial-written {d} t w = told-written text words e t (rw (decorated-bytes text words Word.partial (placeMeans (e .place)) d (ascii "]\n")) w)
 
-    pub decor-block-written : e .element ≡ E.DecoratorBlock d → Written (ascii "[decor-block ") l at m p → Written (ascii "[body\n") n q k s
-        → Written (opening text words e) l at k s
-    unfolding openingBy wrapMeans wrapOpening
-    decor-block-written t a b = told-written text words e t (rw (decorated-bytes text words Word.decorBlock (placeMeans (e .place)) d (ascii "[body\n")) (three g a w b))
+  pub decor-block-written : {d : DecoratorTemplate} → e .element ≡ E.DecoratorBlock d
+      → Written (ascii "[decor-block " ++ (decoratedBytes text words (placeMeans (e .place)) d ++ ascii "[body\n")) l at m r
+      → Written (opening text words e) l at m r
+  unfolding openingBy wrapMeans wrapOpening
+  decor-block-written {d} t w = told-written text words e t (rw (decorated-bytes text words Word.decorBlock (placeMeans (e .place)) d (ascii "[body\n")) w)
 
-    pub partial-block-written : e .element ≡ E.PartialBlock d → Written (ascii "[partial-block ") l at m p → Written (ascii "[body\n") n q k s
-        → Written (opening text words e) l at k s
-    unfolding openingBy wrapMeans wrapOpening
-    partial-block-written t a b = told-written text words e t (rw (decorated-bytes text words Word.partialBlock (placeMeans (e .place)) d (ascii "[body\n")) (three g a w b))
+  pub partial-block-written : {d : DecoratorTemplate} → e .element ≡ E.PartialBlock d
+      → Written (ascii "[partial-block " ++ (decoratedBytes text words (placeMeans (e .place)) d ++ ascii "[body\n")) l at m r
+      → Written (opening text words e) l at m r
+  unfolding openingBy wrapMeans wrapOpening
+  partial-block-written {d} t w = told-written text words e t (rw (decorated-bytes text words Word.partialBlock (placeMeans (e .place)) d (ascii "[body\n")) w)
 
 pub block-bytes : (text : Bytes) (words : List ℕ) (f : Field) (c : Bool) (h : HelperTemplate)
     → blockOpening f c (headAt text words h)
@@ -196,11 +198,7 @@ pub block-bytes : (text : Bytes) (words : List ℕ) (f : Field) (c : Bool) (h : 
 unfolding blockOpening helperChildren
 block-bytes text words f c h = head-three Word.block f (bit c) (bit (h .«indent_before_write»)) _
 
--- ---- a run of writers
-
-pub four : {l x y z u m n k i : Bytes} {at p q r s : ℕ} → length l ≤ largest → Written x l at m p → Written y m p n q → Written z n q k r → Written u k r i s
-    → Written (x ++ (y ++ (z ++ u))) l at i s
-four h a b c d = written-then h a (three (omega (arith, written-length a)) b c d)
+-- ---- other bytes, and a text
 
 pub bytes-are : {x y l m : Bytes} {at r : ℕ} → x ≡ y → Written y l at m r → Written x l at m r
 bytes-are {l = l} {m = m} {at = at} {r = r} e w = subst (λ z. Written z l at m r) (sym e) w

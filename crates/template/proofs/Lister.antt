@@ -19,7 +19,7 @@ use Rattle.listing.proofs.Writes.{written-then, written-length}
 use Rattle.listing.proofs.ChildWrites.{call-join, block-join}
 use Rattle.template.specs.Element.{roleOf, Sound}
 use Rattle.template.specs.Store.{elementAt, Leaf, Helper, Wrapper, Chain, ElseAt, Holds, Stored}
-use Rattle.template.specs.Opening.{blockOpening, wrapOpening, openingBy, opening, hasBody}
+use Rattle.template.specs.Opening.{blockOpening, wrapOpening, openingBy, opening, hasBody, waits}
 use Rattle.template.specs.declared.element.Element.{Element}
 use Rattle.template.specs.declared.list.Waiting as code
 use Rattle.template.proofs.BodyAt.{elseOf, bodyAt, chain-read, else-read, holds-one}
@@ -264,6 +264,13 @@ module _ (text : Bytes) (words : List ℕ) (st : List Element) where
       → Turn first l start m ws p at depth size
   turned s h = record { state = s; less = omega (arith, left-size s, h) }
 
+  -- an entry that is told by an equation
+  pub entered : (ws : List code.Waiting) (i : ℕ) {first : ℕ} {l m : Bytes} {u v : code.Waiting} {start p at depth size : ℕ} → v ≡ u
+      → Turn first l start m (set ws i u) p at depth size
+      → Turn first l start m (set ws i v) p at depth size
+  entered ws i {first} {l} {m} {start = start} {p = p} {at = at} {depth = depth} {size = size} e t =
+      subst (λ z. Turn first l start m (set ws i z) p at depth size) (sym e) t
+
   pub leaf-bytes : {o : Option Place} {x : Item} {e : Element} → Leaf text words o x e → writeForm (itemForm (placeField o) x) ≡ opening text words e
   unfolding openingBy
   leaf-bytes h = rw (h .is .role, h .is .place, h .means) refl
@@ -384,13 +391,13 @@ module _ (text : Bytes) (words : List ℕ) (st : List Element) where
             → Chain text words st 0 (elementAt st at .template) y (at + 1) k b
             → ElseAt text words st (elementAt st at .inverted) (elementAt st at .inverse) k z x
             → Chain text words st at (elementAt st at .next) (s .last) z (s .hi) r
-            → Turn first l start n (set ws depth (record { block = at; inverse = false })) q (elementAt st at .template) (depth + 1) (leftSize ws at depth)
+            → Turn first l start n (set ws depth (waits at false)) q (elementAt st at .template) (depth + 1) (leftSize ws at depth)
         unfolding stackSize
         push b r x k z y f size h1 h2 h3 h4 c e d =
-            let v : code.Waiting = record { block = at; inverse = false } in
+            let v = waits at false in
             let same-entry : getD (set ws depth v) (length (s .contexts)) noWaiting ≡ v =
             ap (λ i. getD (set ws depth v) i noWaiting) (s .deep) ∙ getD-set-same ws depth v noWaiting (omega (arith, s .long, s .low, s .near)) in
-            let waits : Waits v (length (s .contexts)) k z (s .hi) x r = record {
+            let entry : Waits v (length (s .contexts)) k z (s .hi) x r = record {
               inside = omega (arith, s .near);
               deep = omega (arith, s .low, s .deep);
               order = h3;
@@ -413,7 +420,7 @@ module _ (text : Bytes) (words : List ℕ) (st : List Element) where
               near = omega (arith, s .near);
               contexts = context z (s .hi) x r ∷ s .contexts;
               stack = (
-                subst (λ u. Waits u (length (s .contexts)) k z (s .hi) x r) (sym same-entry) waits,
+                subst (λ u. Waits u (length (s .contexts)) k z (s .hi) x r) (sym same-entry) entry,
                 stack-same ws (set ws depth v) (s .hi) (s .contexts) (λ i j. getD-set-other ws depth i v noWaiting (λ t. omega (arith, s .deep))) (s .stack),
               );
               deep = omega (arith, s .deep);
@@ -424,12 +431,12 @@ module _ (text : Bytes) (words : List ℕ) (st : List Element) where
             }) (omega (arith, left-size s))
 
         pub block-turn : hasBody (roleOf (elementAt st at .element)) ≡ true
-            → Turn first l start n (set ws depth (record { block = at; inverse = false })) q (elementAt st at .template) (depth + 1) (leftSize ws at depth)
+            → Turn first l start n (set ws depth (waits at false)) q (elementAt st at .template) (depth + 1) (leftSize ws at depth)
         unfolding bodySize bodyForms writeForm tail
         block-turn f = go (s .here) refl (s .chain)
           where
             go : (b : Body) → s .here ≡ b → Chain text words st (s .before) at (s .last) (s .lo) (s .hi) b
-                → Turn first l start n (set ws depth (record { block = at; inverse = false })) q (elementAt st at .template) (depth + 1) (leftSize ws at depth)
+                → Turn first l start n (set ws depth (waits at false)) q (elementAt st at .template) (depth + 1) (leftSize ws at depth)
             go end e c = absurd (some (c .0))
             go (then (item o x) r) e c = absurd (clash (sym f ∙ ap hasBody (c .4 .is .role)))
             go (then (block o v h b x) r) e c =
@@ -457,24 +464,24 @@ module _ (text : Bytes) (words : List ℕ) (st : List Element) where
       module _ {n : Bytes} {q : ℕ} where
         pub else-turn : (elementAt st (getD ws (depth - 1) noWaiting .block) .inverted && not (getD ws (depth - 1) noWaiting .inverse)) ≡ true
             → Written (ascii "]\n[else\n") m p n q
-            → Turn first l start n (set ws (depth - 1) (record { block = getD ws (depth - 1) noWaiting .block; inverse = true })) q
+            → Turn first l start n (set ws (depth - 1) (waits (getD ws (depth - 1) noWaiting .block) true)) q
             (elementAt st (getD ws (depth - 1) noWaiting .block) .inverse) (depth - 1 + 1) (leftSize ws at depth)
         unfolding bodySize stackSize bodyForms writeForm writeHead writeFields tail
         else-turn f w = go (s .contexts) refl (s .deep) (s .stack)
           where
             go : (cs : List Context) → s .contexts ≡ cs → length cs ≡ depth → Stack ws (s .hi) cs
-                → Turn first l start n (set ws (depth - 1) (record { block = getD ws (depth - 1) noWaiting .block; inverse = true })) q
+                → Turn first l start n (set ws (depth - 1) (waits (getD ws (depth - 1) noWaiting .block) true)) q
                 (elementAt st (getD ws (depth - 1) noWaiting .block) .inverse) (depth - 1 + 1) (leftSize ws at depth)
             go [] e d t = absurd (some (sym d))
             go (context z hi x r ∷ cs) e d t =
                 let i : length cs ≡ depth - 1 = omega arith in
                 let u = getD ws (depth - 1) noWaiting in
-                let v : code.Waiting = record { block = u .block; inverse = true } in
+                let v = waits (u .block) true in
                 let a = subst (λ i. Waits (getD ws i noWaiting) (length cs) (s .hi) z hi x r) i (t .0) in
                 let y = elsed (u .inverse) (elementAt st (u .block)) (s .hi) z x f (a .elses) in
                 let same-entry : getD (set ws (depth - 1) v) (length cs) noWaiting ≡ v =
                 ap (λ i. getD (set ws (depth - 1) v) i noWaiting) i ∙ getD-set-same ws (depth - 1) v noWaiting (omega (arith, s .long, a .deep, a .order, a .below)) in
-                let waits : Waits v (length cs) z z hi noElse r = record {
+                let entry : Waits v (length cs) z z hi noElse r = record {
                   inside = a .inside;
                   deep = omega (arith, a .deep, a .order);
                   order = omega arith;
@@ -504,7 +511,7 @@ module _ (text : Bytes) (words : List ℕ) (st : List Element) where
                   near = a .below;
                   contexts = context z hi noElse r ∷ cs;
                   stack = (
-                    subst (λ u. Waits u (length cs) z z hi noElse r) (sym same-entry) waits,
+                    subst (λ u. Waits u (length cs) z z hi noElse r) (sym same-entry) entry,
                     stack-same ws (set ws (depth - 1) v) hi cs (λ j k. getD-set-other ws (depth - 1) j v noWaiting (λ t. omega arith)) (t .1),
                   );
                   deep = omega arith;

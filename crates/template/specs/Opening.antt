@@ -13,6 +13,7 @@ use Rattle.template.specs.Element.{placeMeans, linkOf, indentMeans, item
 use Rattle.template.specs.declared.element.DecoratorTemplate.{DecoratorTemplate}
 use Rattle.template.specs.declared.element.TemplateElement.{TemplateElement}
 use Rattle.template.specs.declared.element.Element.{Element}
+use Rattle.template.specs.declared.list.Waiting.{Waiting}
 
 -- a block up to the first line of its body
 unfoldable pub blockOpening : Field → Bool → Head → Bytes
@@ -46,3 +47,7 @@ hasBody leaf = false
 hasBody helper = true
 hasBody wrapper = true
 hasBody nothing = false
+
+-- a block that waits while its body, or its else, is listed
+abbrev pub waits : ℕ → Bool → Waiting
+waits block inverse = record { block = block; inverse = inverse }

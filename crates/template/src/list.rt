@@ -34,7 +34,7 @@ ghost use Rattle.template.specs.Compile.{fit};
 ghost use Rattle.template.specs.Answers.{AnswerIs};
 ghost use Rattle.template.specs.Element.{placeMeans, linkOf, rawMeans, commentMeans, indentMeans, headAt, roleOf, Good, RawGood, Sound};
 ghost use Rattle.template.specs.Store.{Holds, Stored};
-ghost use Rattle.template.specs.Opening.{blockOpening, decoratedBytes, opening, hasBody};
+ghost use Rattle.template.specs.Opening.{blockOpening, decoratedBytes, opening, hasBody, waits};
 
 // A block of which the body, or the else, is being listed.
 pub struct Waiting {
@@ -47,6 +47,15 @@ impl Waiting {
         block: 0,
         inverse: false,
     };
+
+    fn new(block: usize, inverse: bool) -> Waiting
+        ensures { λ r. ⌜ r ≡ waits block inverse ⌝ }
+    {
+        Waiting {
+            block: block,
+            inverse: inverse,
+        }
+    }
 }
 
 fn link_of(from: usize, limit: usize) -> Subexpression
@@ -135,18 +144,20 @@ fn write_comment(out: &mut [u8], at: usize, text: &[u8], place: Place, c: Commen
     put_bytes(out, t, b"]\n")
 }
 
-// An expression behind its word: its place, and its children.
+// An expression, from its word.
 fn write_expression(
     out: &mut [u8],
     at: usize,
     text: &[u8],
     words: &[u32],
+    word: &[u8],
     place: Place,
     h: HelperTemplate,
 ) -> usize
-    ensures { λ r. ⌜ Written (writeField (placeField (placeMeans place)) ++ (ascii "\n" ++ (writeForms (helperChildren (now (text .entry)) (now (words .entry)) (linkOf (h .from) (h .limit))) ++ ascii "]\n"))) (now (out .entry)) at (now (out .exit)) r ⌝ }
+    ensures { λ r. ⌜ Written (now (word .entry) ++ (writeField (placeField (placeMeans place)) ++ (ascii "\n" ++ (writeForms (helperChildren (now (text .entry)) (now (words .entry)) (linkOf (h .from) (h .limit))) ++ ascii "]\n")))) (now (out .entry)) at (now (out .exit)) r ⌝ }
 {
-    let p = write_place(out, at, place);
+    let o = put_bytes(out, at, word);
+    let p = write_place(out, o, place);
     let q = put_bytes(out, p, b"\n");
     let s = write_helper(out, q, text, words, link_of(h.from, h.limit));
     put_bytes(out, s, b"]\n")
@@ -173,22 +184,26 @@ fn write_block(
     put_bytes(out, u, b"[body\n")
 }
 
-// A decorator or a partial behind its word, up to its body if it has one.
+// A decorator or a partial, from its word to its end or its body.
 fn write_decorated(
     out: &mut [u8],
     at: usize,
     text: &[u8],
     words: &[u32],
+    word: &[u8],
     place: Place,
     d: DecoratorTemplate,
+    end: &[u8],
 ) -> usize
-    ensures { λ r. ⌜ Written (decoratedBytes (now (text .entry)) (now (words .entry)) (placeMeans place) d) (now (out .entry)) at (now (out .exit)) r ⌝ }
+    ensures { λ r. ⌜ Written (now (word .entry) ++ (decoratedBytes (now (text .entry)) (now (words .entry)) (placeMeans place) d ++ now (end .entry))) (now (out .entry)) at (now (out .exit)) r ⌝ }
 {
-    let p = write_place(out, at, place);
+    let o = put_bytes(out, at, word);
+    let p = write_place(out, o, place);
     let q = write_bit(out, p, d.indent_before_write);
     let s = write_indent(out, q, text, d);
     let t = put_bytes(out, s, b"\n");
-    write_decorator(out, t, text, words, link_of(d.from, d.limit))
+    let u = write_decorator(out, t, text, words, link_of(d.from, d.limit));
+    put_bytes(out, u, end)
 }
 
 // An element up to its body, if it has one.
@@ -203,39 +218,29 @@ pub(crate) fn write_element(
     ensures { λ r. ⌜ Written (opening (now (text .entry)) (now (words .entry)) e) (now (out .entry)) at (now (out .exit)) r ⌝ }
 {
     let x = e.element;
-    let place = e.place;
+    let p = e.place;
     match x {
         TemplateElement::Empty => at,
-        TemplateElement::RawString(r) => write_text(out, at, text, words, place, r),
-        TemplateElement::Comment(c) => write_comment(out, at, text, place, c),
+        TemplateElement::RawString(r) => write_text(out, at, text, words, p, r),
+        TemplateElement::Comment(c) => write_comment(out, at, text, p, c),
         TemplateElement::Expression(h) => {
-            let p = put_bytes(out, at, b"[expr ");
-            write_expression(out, p, text, words, place, h)
+            write_expression(out, at, text, words, b"[expr ", p, h)
         }
         TemplateElement::HtmlExpression(h) => {
-            let p = put_bytes(out, at, b"[html ");
-            write_expression(out, p, text, words, place, h)
+            write_expression(out, at, text, words, b"[html ", p, h)
         }
-        TemplateElement::HelperBlock(h) => write_block(out, at, text, words, place, e.chain, h),
+        TemplateElement::HelperBlock(h) => write_block(out, at, text, words, p, e.chain, h),
         TemplateElement::DecoratorExpression(d) => {
-            let p = put_bytes(out, at, b"[decor ");
-            let q = write_decorated(out, p, text, words, place, d);
-            put_bytes(out, q, b"]\n")
+            write_decorated(out, at, text, words, b"[decor ", p, d, b"]\n")
         }
         TemplateElement::PartialExpression(d) => {
-            let p = put_bytes(out, at, b"[partial ");
-            let q = write_decorated(out, p, text, words, place, d);
-            put_bytes(out, q, b"]\n")
+            write_decorated(out, at, text, words, b"[partial ", p, d, b"]\n")
         }
         TemplateElement::DecoratorBlock(d) => {
-            let p = put_bytes(out, at, b"[decor-block ");
-            let q = write_decorated(out, p, text, words, place, d);
-            put_bytes(out, q, b"[body\n")
+            write_decorated(out, at, text, words, b"[decor-block ", p, d, b"[body\n")
         }
         TemplateElement::PartialBlock(d) => {
-            let p = put_bytes(out, at, b"[partial-block ");
-            let q = write_decorated(out, p, text, words, place, d);
-            put_bytes(out, q, b"[body\n")
+            write_decorated(out, at, text, words, b"[partial-block ", p, d, b"[body\n")
         }
     }
 }
@@ -293,10 +298,7 @@ fn write_all(
             let e = elements[block];
             if has_else(e, w) {
                 p = put_bytes(out, p, b"]\n[else\n");
-                waiting[depth] = Waiting {
-                    block: block,
-                    inverse: true,
-                };
+                waiting[depth] = Waiting::new(block, true);
                 depth += 1;
                 at = e.inverse;
             } else {
@@ -308,10 +310,7 @@ fn write_all(
             let x = e.element;
             p = write_element(out, p, text, words, e);
             if has_body(x) {
-                waiting[depth] = Waiting {
-                    block: at,
-                    inverse: false,
-                };
+                waiting[depth] = Waiting::new(at, false);
                 depth += 1;
                 at = e.template;
             } else {

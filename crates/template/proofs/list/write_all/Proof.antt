@@ -1,6 +1,7 @@
 -- `template::list::write_all` meets its contract: the invariant is `Lister`, and each way through a turn one of its laws; the measure is the size of what is left. Assumes nothing.
+use Prim.Native.Nat.{_-_}
 use native.Mathlib.Omega.{arith}
-use mathlib.Core.Path.{refl, sym, ap, _∙_, _≡_}
+use mathlib.Core.Path.{_≡_, refl, sym, ap, _∙_}
 use lib.ListN.{length, replicate, length-replicate}
 use borrow.Author.Needs.{needs}
 use Rattle.support.specs.Bytes.{ascii}
@@ -108,61 +109,64 @@ slice-aggregate-put-bytes-3 c =
 put-bytes-requires-3 : tie.Need-put-bytes-requires-3 Inv-loop μ-loop
 put-bytes-requires-3 c κs = search needs
 
+new-requires : tie.Need-new-requires Inv-loop μ-loop
+new-requires c κs = search needs
+
 mul-waiting : tie.Need-mul-waiting Inv-loop μ-loop
 mul-waiting c =
-    let args = c .before .before .before .before .before .before .before .before .before .before .before .before .before .before .before .before .before .before .before .before .args in
-    let good = c .before .before .before .before .before .before .before .before .before .before .before .before .before .before .before .before .before .before .before .before .good in
-    let put-bytes = c .before .before .before .before .before .before .before .before .before .before .before .before .before .before .put-bytes in
-    let loop = c .before .before .before .before .before .before .before .before .before .before .before .loop in
-    let if1 = c .before .before .before .before .before .before .before .before .before .before .if1 in
-    let if2 = c .before .before .before .before .before .before .before .before .before .if2 in
+    let args = c .before .before .before .before .before .before .before .before .before .before .before .before .before .before .before .before .before .before .before .before .before .args in
+    let good = c .before .before .before .before .before .before .before .before .before .before .before .before .before .before .before .before .before .before .before .before .before .good in
+    let put-bytes = c .before .before .before .before .before .before .before .before .before .before .before .before .before .before .before .put-bytes in
+    let loop = c .before .before .before .before .before .before .before .before .before .before .before .before .loop in
+    let if1 = c .before .before .before .before .before .before .before .before .before .before .before .if1 in
+    let if2 = c .before .before .before .before .before .before .before .before .before .before .if2 in
     let h = lister.entry-near (args .text .now) (args .words .now) (args .t1) (omega (arith, good .1 .1 .1 .1 .0, writes.written-length (put-bytes .ensures))) (loop .inv .3) (if1 .taken) (if2 .left) in omega (arith, h .0, h .1)
 
 array-set-from-waiting : tie.Need-array-set-from-waiting Inv-loop μ-loop
 array-set-from-waiting c =
-    let args = c .before .before .before .before .before .before .before .before .before .before .before .before .before .before .before .before .before .before .before .before .args in
-    let good = c .before .before .before .before .before .before .before .before .before .before .before .before .before .before .before .before .before .before .before .before .good in
-    let put-bytes = c .before .before .before .before .before .before .before .before .before .before .before .before .before .before .put-bytes in
-    let loop = c .before .before .before .before .before .before .before .before .before .before .before .loop in
-    let if1 = c .before .before .before .before .before .before .before .before .before .before .if1 in
-    let if2 = c .before .before .before .before .before .before .before .before .before .if2 in
+    let args = c .before .before .before .before .before .before .before .before .before .before .before .before .before .before .before .before .before .before .before .before .before .args in
+    let good = c .before .before .before .before .before .before .before .before .before .before .before .before .before .before .before .before .before .before .before .before .before .good in
+    let put-bytes = c .before .before .before .before .before .before .before .before .before .before .before .before .before .before .before .put-bytes in
+    let loop = c .before .before .before .before .before .before .before .before .before .before .before .before .loop in
+    let if1 = c .before .before .before .before .before .before .before .before .before .before .before .if1 in
+    let if2 = c .before .before .before .before .before .before .before .before .before .before .if2 in
     let h = lister.entry-near (args .text .now) (args .words .now) (args .t1) (omega (arith, good .1 .1 .1 .1 .0, writes.written-length (put-bytes .ensures))) (loop .inv .3) (if1 .taken) (if2 .left) in omega (arith, h .0, h .1)
 
 add-depth : tie.Need-add-depth Inv-loop μ-loop
 add-depth c =
-    let args = c .before .before .before .before .before .before .before .before .before .before .before .before .before .before .before .before .before .before .before .before .args in
-    let good = c .before .before .before .before .before .before .before .before .before .before .before .before .before .before .before .before .before .before .before .before .good in
-    let put-bytes = c .before .before .before .before .before .before .before .before .before .before .before .before .before .before .put-bytes in
-    let loop = c .before .before .before .before .before .before .before .before .before .before .before .loop in
-    let if1 = c .before .before .before .before .before .before .before .before .before .before .if1 in
-    let if2 = c .before .before .before .before .before .before .before .before .before .if2 in
+    let args = c .before .before .before .before .before .before .before .before .before .before .before .before .before .before .before .before .before .before .before .before .before .args in
+    let good = c .before .before .before .before .before .before .before .before .before .before .before .before .before .before .before .before .before .before .before .before .before .good in
+    let put-bytes = c .before .before .before .before .before .before .before .before .before .before .before .before .before .before .before .put-bytes in
+    let loop = c .before .before .before .before .before .before .before .before .before .before .before .before .loop in
+    let if1 = c .before .before .before .before .before .before .before .before .before .before .before .if1 in
+    let if2 = c .before .before .before .before .before .before .before .before .before .before .if2 in
     let h = lister.entry-near (args .text .now) (args .words .now) (args .t1) (omega (arith, good .1 .1 .1 .1 .0, writes.written-length (put-bytes .ensures))) (loop .inv .3) (if1 .taken) (if2 .left) in omega (arith, h .0, h .1)
 
 loop-less : tie.Need-loop-less Inv-loop μ-loop
 loop-less c =
-    let args = c .before .before .before .before .before .before .before .before .before .before .before .before .before .before .before .before .before .before .before .before .args in
-    let good = c .before .before .before .before .before .before .before .before .before .before .before .before .before .before .before .before .before .before .before .before .good in
-    let put-bytes = c .before .before .before .before .before .before .before .before .before .before .before .before .before .before .put-bytes in
-    let loop = c .before .before .before .before .before .before .before .before .before .before .before .loop in
-    let if1 = c .before .before .before .before .before .before .before .before .before .before .if1 in
-    let if2 = c .before .before .before .before .before .before .before .before .before .if2 in
-    let has-else = c .before .before .before .before .before .before .has-else in
-    let if3 = c .before .before .before .before .before .if3 in
-    let put-bytes3 = c .before .before .put-bytes3 in
-    lister.else-turn (args .text .now) (args .words .now) (args .t1) (omega (arith, good .1 .1 .1 .1 .0, writes.written-length (put-bytes .ensures))) (loop .inv .3) (if1 .taken) (if2 .left) (sym (has-else .ensures) ∙ if3 .taken) (elements.bytes-are (sym (loop .inv .1)) (put-bytes3 .ensures)) .less
+    let args = c .before .before .before .before .before .before .before .before .before .before .before .before .before .before .before .before .before .before .before .before .before .args in
+    let good = c .before .before .before .before .before .before .before .before .before .before .before .before .before .before .before .before .before .before .before .before .before .good in
+    let put-bytes = c .before .before .before .before .before .before .before .before .before .before .before .before .before .before .before .put-bytes in
+    let loop = c .before .before .before .before .before .before .before .before .before .before .before .before .loop in
+    let if1 = c .before .before .before .before .before .before .before .before .before .before .before .if1 in
+    let if2 = c .before .before .before .before .before .before .before .before .before .before .if2 in
+    let has-else = c .before .before .before .before .before .before .before .has-else in
+    let if3 = c .before .before .before .before .before .before .if3 in
+    let put-bytes3 = c .before .before .before .put-bytes3 in
+    lister.entered (args .text .now) (args .words .now) (args .t1) (loop .waiting) (loop .depth - 1) (c .new .ensures) (lister.else-turn (args .text .now) (args .words .now) (args .t1) (omega (arith, good .1 .1 .1 .1 .0, writes.written-length (put-bytes .ensures))) (loop .inv .3) (if1 .taken) (if2 .left) (sym (has-else .ensures) ∙ if3 .taken) (elements.bytes-are (sym (loop .inv .1)) (put-bytes3 .ensures))) .less
 
 loop-again : tie.Need-loop-again Inv-loop μ-loop
 loop-again c =
-    let args = c .before .before .before .before .before .before .before .before .before .before .before .before .before .before .before .before .before .before .before .before .args in
-    let good = c .before .before .before .before .before .before .before .before .before .before .before .before .before .before .before .before .before .before .before .before .good in
-    let put-bytes = c .before .before .before .before .before .before .before .before .before .before .before .before .before .before .put-bytes in
-    let loop = c .before .before .before .before .before .before .before .before .before .before .before .loop in
-    let if1 = c .before .before .before .before .before .before .before .before .before .before .if1 in
-    let if2 = c .before .before .before .before .before .before .before .before .before .if2 in
-    let has-else = c .before .before .before .before .before .before .has-else in
-    let if3 = c .before .before .before .before .before .if3 in
-    let put-bytes3 = c .before .before .put-bytes3 in
-    (loop .inv .0, loop .inv .1, loop .inv .2, lister.else-turn (args .text .now) (args .words .now) (args .t1) (omega (arith, good .1 .1 .1 .1 .0, writes.written-length (put-bytes .ensures))) (loop .inv .3) (if1 .taken) (if2 .left) (sym (has-else .ensures) ∙ if3 .taken) (elements.bytes-are (sym (loop .inv .1)) (put-bytes3 .ensures)) .state)
+    let args = c .before .before .before .before .before .before .before .before .before .before .before .before .before .before .before .before .before .before .before .before .before .args in
+    let good = c .before .before .before .before .before .before .before .before .before .before .before .before .before .before .before .before .before .before .before .before .before .good in
+    let put-bytes = c .before .before .before .before .before .before .before .before .before .before .before .before .before .before .before .put-bytes in
+    let loop = c .before .before .before .before .before .before .before .before .before .before .before .before .loop in
+    let if1 = c .before .before .before .before .before .before .before .before .before .before .before .if1 in
+    let if2 = c .before .before .before .before .before .before .before .before .before .before .if2 in
+    let has-else = c .before .before .before .before .before .before .before .has-else in
+    let if3 = c .before .before .before .before .before .before .if3 in
+    let put-bytes3 = c .before .before .before .put-bytes3 in
+    (loop .inv .0, loop .inv .1, loop .inv .2, lister.entered (args .text .now) (args .words .now) (args .t1) (loop .waiting) (loop .depth - 1) (c .new .ensures) (lister.else-turn (args .text .now) (args .words .now) (args .t1) (omega (arith, good .1 .1 .1 .1 .0, writes.written-length (put-bytes .ensures))) (loop .inv .3) (if1 .taken) (if2 .left) (sym (has-else .ensures) ∙ if3 .taken) (elements.bytes-are (sym (loop .inv .1)) (put-bytes3 .ensures))) .state)
 
 slice-aggregate-put-bytes-4 : tie.Need-slice-aggregate-put-bytes-4 Inv-loop μ-loop
 slice-aggregate-put-bytes-4 c =
@@ -227,54 +231,59 @@ write-element-requires c κs =
 has-body-requires : tie.Need-has-body-requires Inv-loop μ-loop
 has-body-requires c κs = search needs
 
+new-requires-2 : tie.Need-new-requires-2 Inv-loop μ-loop
+new-requires-2 c κs = search needs
+
 mul-waiting-2 : tie.Need-mul-waiting-2 Inv-loop μ-loop
 mul-waiting-2 c =
-    let args = c .before .before .before .before .before .before .before .before .before .before .before .before .before .before .before .before .before .args in
-    let good = c .before .before .before .before .before .before .before .before .before .before .before .before .before .before .before .before .before .good in
-    let put-bytes = c .before .before .before .before .before .before .before .before .before .before .before .put-bytes in
-    let loop = c .before .before .before .before .before .before .before .before .loop in
-    let if1 = c .before .before .before .before .before .before .before .if1 in
+    let args = c .before .before .before .before .before .before .before .before .before .before .before .before .before .before .before .before .before .before .args in
+    let good = c .before .before .before .before .before .before .before .before .before .before .before .before .before .before .before .before .before .before .good in
+    let put-bytes = c .before .before .before .before .before .before .before .before .before .before .before .before .put-bytes in
+    let loop = c .before .before .before .before .before .before .before .before .before .loop in
+    let if1 = c .before .before .before .before .before .before .before .before .if1 in
     omega (arith, lister.depth-near (args .text .now) (args .words .now) (args .t1) (omega (arith, good .1 .1 .1 .1 .0, writes.written-length (put-bytes .ensures))) (loop .inv .3) (if1 .left))
 
 array-set-from-waiting-2 : tie.Need-array-set-from-waiting-2 Inv-loop μ-loop
 array-set-from-waiting-2 c =
-    let args = c .before .before .before .before .before .before .before .before .before .before .before .before .before .before .before .before .before .args in
-    let good = c .before .before .before .before .before .before .before .before .before .before .before .before .before .before .before .before .before .good in
-    let put-bytes = c .before .before .before .before .before .before .before .before .before .before .before .put-bytes in
-    let loop = c .before .before .before .before .before .before .before .before .loop in
-    let if1 = c .before .before .before .before .before .before .before .if1 in
+    let args = c .before .before .before .before .before .before .before .before .before .before .before .before .before .before .before .before .before .before .args in
+    let good = c .before .before .before .before .before .before .before .before .before .before .before .before .before .before .before .before .before .before .good in
+    let put-bytes = c .before .before .before .before .before .before .before .before .before .before .before .before .put-bytes in
+    let loop = c .before .before .before .before .before .before .before .before .before .loop in
+    let if1 = c .before .before .before .before .before .before .before .before .if1 in
     omega (arith, lister.depth-near (args .text .now) (args .words .now) (args .t1) (omega (arith, good .1 .1 .1 .1 .0, writes.written-length (put-bytes .ensures))) (loop .inv .3) (if1 .left))
 
 add-depth-2 : tie.Need-add-depth-2 Inv-loop μ-loop
 add-depth-2 c =
-    let args = c .before .before .before .before .before .before .before .before .before .before .before .before .before .before .before .before .before .args in
-    let good = c .before .before .before .before .before .before .before .before .before .before .before .before .before .before .before .before .before .good in
-    let put-bytes = c .before .before .before .before .before .before .before .before .before .before .before .put-bytes in
-    let loop = c .before .before .before .before .before .before .before .before .loop in
-    let if1 = c .before .before .before .before .before .before .before .if1 in
+    let args = c .before .before .before .before .before .before .before .before .before .before .before .before .before .before .before .before .before .before .args in
+    let good = c .before .before .before .before .before .before .before .before .before .before .before .before .before .before .before .before .before .before .good in
+    let put-bytes = c .before .before .before .before .before .before .before .before .before .before .before .before .put-bytes in
+    let loop = c .before .before .before .before .before .before .before .before .before .loop in
+    let if1 = c .before .before .before .before .before .before .before .before .if1 in
     omega (arith, lister.depth-near (args .text .now) (args .words .now) (args .t1) (omega (arith, good .1 .1 .1 .1 .0, writes.written-length (put-bytes .ensures))) (loop .inv .3) (if1 .left))
 
 loop-less-3 : tie.Need-loop-less-3 Inv-loop μ-loop
 loop-less-3 c =
-    let args = c .before .before .before .before .before .before .before .before .before .before .before .before .before .before .before .before .before .args in
-    let good = c .before .before .before .before .before .before .before .before .before .before .before .before .before .before .before .before .before .good in
-    let put-bytes = c .before .before .before .before .before .before .before .before .before .before .before .put-bytes in
-    let loop = c .before .before .before .before .before .before .before .before .loop in
-    let if1 = c .before .before .before .before .before .before .before .if1 in
-    let write-element = c .before .before .before .before .write-element in
-    let has-body = c .before .has-body in
-    lister.block-turn (args .text .now) (args .words .now) (args .t1) (omega (arith, good .1 .1 .1 .1 .0, writes.written-length (put-bytes .ensures))) (loop .inv .3) (if1 .left) (write-element .ensures) (sym (has-body .ensures) ∙ c .if4 .taken) .less
+    let args = c .before .before .before .before .before .before .before .before .before .before .before .before .before .before .before .before .before .before .args in
+    let good = c .before .before .before .before .before .before .before .before .before .before .before .before .before .before .before .before .before .before .good in
+    let put-bytes = c .before .before .before .before .before .before .before .before .before .before .before .before .put-bytes in
+    let loop = c .before .before .before .before .before .before .before .before .before .loop in
+    let if1 = c .before .before .before .before .before .before .before .before .if1 in
+    let write-element = c .before .before .before .before .before .write-element in
+    let has-body = c .before .before .has-body in
+    let if4 = c .before .if4 in
+    lister.entered (args .text .now) (args .words .now) (args .t1) (loop .waiting) (loop .depth) (c .new2 .ensures) (lister.block-turn (args .text .now) (args .words .now) (args .t1) (omega (arith, good .1 .1 .1 .1 .0, writes.written-length (put-bytes .ensures))) (loop .inv .3) (if1 .left) (write-element .ensures) (sym (has-body .ensures) ∙ if4 .taken)) .less
 
 loop-again-3 : tie.Need-loop-again-3 Inv-loop μ-loop
 loop-again-3 c =
-    let args = c .before .before .before .before .before .before .before .before .before .before .before .before .before .before .before .before .before .args in
-    let good = c .before .before .before .before .before .before .before .before .before .before .before .before .before .before .before .before .before .good in
-    let put-bytes = c .before .before .before .before .before .before .before .before .before .before .before .put-bytes in
-    let loop = c .before .before .before .before .before .before .before .before .loop in
-    let if1 = c .before .before .before .before .before .before .before .if1 in
-    let write-element = c .before .before .before .before .write-element in
-    let has-body = c .before .has-body in
-    (loop .inv .0, loop .inv .1, loop .inv .2, lister.block-turn (args .text .now) (args .words .now) (args .t1) (omega (arith, good .1 .1 .1 .1 .0, writes.written-length (put-bytes .ensures))) (loop .inv .3) (if1 .left) (write-element .ensures) (sym (has-body .ensures) ∙ c .if4 .taken) .state)
+    let args = c .before .before .before .before .before .before .before .before .before .before .before .before .before .before .before .before .before .before .args in
+    let good = c .before .before .before .before .before .before .before .before .before .before .before .before .before .before .before .before .before .before .good in
+    let put-bytes = c .before .before .before .before .before .before .before .before .before .before .before .before .put-bytes in
+    let loop = c .before .before .before .before .before .before .before .before .before .loop in
+    let if1 = c .before .before .before .before .before .before .before .before .if1 in
+    let write-element = c .before .before .before .before .before .write-element in
+    let has-body = c .before .before .has-body in
+    let if4 = c .before .if4 in
+    (loop .inv .0, loop .inv .1, loop .inv .2, lister.entered (args .text .now) (args .words .now) (args .t1) (loop .waiting) (loop .depth) (c .new2 .ensures) (lister.block-turn (args .text .now) (args .words .now) (args .t1) (omega (arith, good .1 .1 .1 .1 .0, writes.written-length (put-bytes .ensures))) (loop .inv .3) (if1 .left) (write-element .ensures) (sym (has-body .ensures) ∙ if4 .taken)) .state)
 
 loop-less-4 : tie.Need-loop-less-4 Inv-loop μ-loop
 loop-less-4 c =
@@ -319,6 +328,7 @@ write-all-spec =
     has-else-requires
     slice-aggregate-put-bytes-3
     put-bytes-requires-3
+    new-requires
     mul-waiting
     array-set-from-waiting
     add-depth
@@ -332,6 +342,7 @@ write-all-spec =
     array-copy-out-e-2
     write-element-requires
     has-body-requires
+    new-requires-2
     mul-waiting-2
     array-set-from-waiting-2
     add-depth-2

@@ -27,11 +27,8 @@ write-comment-requires c κs = search needs
 enum-known-x-3 : tie.Need-enum-known-x-3
 enum-known-x-3 c = search needs
 
-slice-aggregate-put-bytes : tie.Need-slice-aggregate-put-bytes
-slice-aggregate-put-bytes c = search needs
-
-put-bytes-requires : tie.Need-put-bytes-requires
-put-bytes-requires c κs = search needs
+slice-aggregate-write-expression : tie.Need-slice-aggregate-write-expression
+slice-aggregate-write-expression c = search needs
 
 write-expression-requires : tie.Need-write-expression-requires
 write-expression-requires c κs = search needs
@@ -39,11 +36,8 @@ write-expression-requires c κs = search needs
 enum-known-x-4 : tie.Need-enum-known-x-4
 enum-known-x-4 c = search needs
 
-slice-aggregate-put-bytes-2 : tie.Need-slice-aggregate-put-bytes-2
-slice-aggregate-put-bytes-2 c = search needs
-
-put-bytes-requires-2 : tie.Need-put-bytes-requires-2
-put-bytes-requires-2 c κs = search needs
+slice-aggregate-write-expression-2 : tie.Need-slice-aggregate-write-expression-2
+slice-aggregate-write-expression-2 c = search needs
 
 write-expression-requires-2 : tie.Need-write-expression-requires-2
 write-expression-requires-2 c κs = search needs
@@ -57,74 +51,50 @@ write-block-requires c κs = search needs
 enum-known-x-6 : tie.Need-enum-known-x-6
 enum-known-x-6 c = search needs
 
-slice-aggregate-put-bytes-3 : tie.Need-slice-aggregate-put-bytes-3
-slice-aggregate-put-bytes-3 c = search needs
+slice-aggregate-write-decorated : tie.Need-slice-aggregate-write-decorated
+slice-aggregate-write-decorated c = search needs
 
-put-bytes-requires-3 : tie.Need-put-bytes-requires-3
-put-bytes-requires-3 c κs = search needs
+slice-aggregate-write-decorated-2 : tie.Need-slice-aggregate-write-decorated-2
+slice-aggregate-write-decorated-2 c = search needs
 
 write-decorated-requires : tie.Need-write-decorated-requires
 write-decorated-requires c κs = search needs
 
-slice-aggregate-put-bytes-4 : tie.Need-slice-aggregate-put-bytes-4
-slice-aggregate-put-bytes-4 c = search needs
-
-put-bytes-requires-4 : tie.Need-put-bytes-requires-4
-put-bytes-requires-4 c κs = search needs
-
 enum-known-x-7 : tie.Need-enum-known-x-7
 enum-known-x-7 c = search needs
 
-slice-aggregate-put-bytes-5 : tie.Need-slice-aggregate-put-bytes-5
-slice-aggregate-put-bytes-5 c = search needs
+slice-aggregate-write-decorated-3 : tie.Need-slice-aggregate-write-decorated-3
+slice-aggregate-write-decorated-3 c = search needs
 
-put-bytes-requires-5 : tie.Need-put-bytes-requires-5
-put-bytes-requires-5 c κs = search needs
+slice-aggregate-write-decorated-4 : tie.Need-slice-aggregate-write-decorated-4
+slice-aggregate-write-decorated-4 c = search needs
 
 write-decorated-requires-2 : tie.Need-write-decorated-requires-2
 write-decorated-requires-2 c κs = search needs
 
-slice-aggregate-put-bytes-6 : tie.Need-slice-aggregate-put-bytes-6
-slice-aggregate-put-bytes-6 c = search needs
-
-put-bytes-requires-6 : tie.Need-put-bytes-requires-6
-put-bytes-requires-6 c κs = search needs
-
 enum-known-x-8 : tie.Need-enum-known-x-8
 enum-known-x-8 c = search needs
 
-slice-aggregate-put-bytes-7 : tie.Need-slice-aggregate-put-bytes-7
-slice-aggregate-put-bytes-7 c = search needs
+slice-aggregate-write-decorated-5 : tie.Need-slice-aggregate-write-decorated-5
+slice-aggregate-write-decorated-5 c = search needs
 
-put-bytes-requires-7 : tie.Need-put-bytes-requires-7
-put-bytes-requires-7 c κs = search needs
+slice-aggregate-write-decorated-6 : tie.Need-slice-aggregate-write-decorated-6
+slice-aggregate-write-decorated-6 c = search needs
 
 write-decorated-requires-3 : tie.Need-write-decorated-requires-3
 write-decorated-requires-3 c κs = search needs
 
-slice-aggregate-put-bytes-8 : tie.Need-slice-aggregate-put-bytes-8
-slice-aggregate-put-bytes-8 c = search needs
-
-put-bytes-requires-8 : tie.Need-put-bytes-requires-8
-put-bytes-requires-8 c κs = search needs
-
 enum-known-x-9 : tie.Need-enum-known-x-9
 enum-known-x-9 c = search needs
 
-slice-aggregate-put-bytes-9 : tie.Need-slice-aggregate-put-bytes-9
-slice-aggregate-put-bytes-9 c = search needs
+slice-aggregate-write-decorated-7 : tie.Need-slice-aggregate-write-decorated-7
+slice-aggregate-write-decorated-7 c = search needs
 
-put-bytes-requires-9 : tie.Need-put-bytes-requires-9
-put-bytes-requires-9 c κs = search needs
+slice-aggregate-write-decorated-8 : tie.Need-slice-aggregate-write-decorated-8
+slice-aggregate-write-decorated-8 c = search needs
 
 write-decorated-requires-4 : tie.Need-write-decorated-requires-4
 write-decorated-requires-4 c κs = search needs
-
-slice-aggregate-put-bytes-10 : tie.Need-slice-aggregate-put-bytes-10
-slice-aggregate-put-bytes-10 c = search needs
-
-put-bytes-requires-10 : tie.Need-put-bytes-requires-10
-put-bytes-requires-10 c κs = search needs
 
 returns : tie.Need-returns
 returns c =
@@ -156,24 +126,20 @@ same-length-3 c = search needs
 
 returns-4 : tie.Need-returns-4
 returns-4 c =
-    let args = c .before .before .before .before .before .before .before .before .before .before .before .before .before .before .before .before .args in
-    let good = c .before .before .before .before .before .before .before .before .before .before .before .before .before .before .before .before .good in
-    let x3 = c .before .before .before .before .before .before .before .before .before .before .x3 in
-    let put-bytes = c .before .before .before .before .before .before .put-bytes in
+    let args = c .before .before .before .before .before .before .before .before .before .before .before .before .args in
+    let x3 = c .before .before .before .before .before .before .x3 in
     let write-expression = c .before .before .write-expression in
-    elements.expr-written (args .text .now) (args .words .now) (args .e) (omega (arith, good .0 .0)) (write-expression .ensures) (x3 .given .1) (put-bytes .ensures)
+    elements.expr-written (args .text .now) (args .words .now) (args .e) (x3 .given .1) (write-expression .ensures)
 
 same-length-4 : tie.Need-same-length-4
 same-length-4 c = search needs
 
 returns-5 : tie.Need-returns-5
 returns-5 c =
-    let args = c .before .before .before .before .before .before .before .before .before .before .before .before .before .before .before .before .args in
-    let good = c .before .before .before .before .before .before .before .before .before .before .before .before .before .before .before .before .good in
-    let x4 = c .before .before .before .before .before .before .before .before .before .before .x4 in
-    let put-bytes2 = c .before .before .before .before .before .before .put-bytes2 in
+    let args = c .before .before .before .before .before .before .before .before .before .before .before .before .args in
+    let x4 = c .before .before .before .before .before .before .x4 in
     let write-expression2 = c .before .before .write-expression2 in
-    elements.html-written (args .text .now) (args .words .now) (args .e) (omega (arith, good .0 .0)) (write-expression2 .ensures) (x4 .given .1) (put-bytes2 .ensures)
+    elements.html-written (args .text .now) (args .words .now) (args .e) (x4 .given .1) (write-expression2 .ensures)
 
 same-length-5 : tie.Need-same-length-5
 same-length-5 c = search needs
@@ -190,52 +156,40 @@ same-length-6 c = search needs
 
 returns-7 : tie.Need-returns-7
 returns-7 c =
-    let args = c .before .before .before .before .before .before .before .before .before .before .before .before .before .before .before .before .before .before .before .before .before .args in
-    let good = c .before .before .before .before .before .before .before .before .before .before .before .before .before .before .before .before .before .before .before .before .before .good in
-    let x6 = c .before .before .before .before .before .before .before .before .before .before .before .before .before .before .before .x6 in
-    let put-bytes3 = c .before .before .before .before .before .before .before .before .before .before .before .put-bytes3 in
-    let write-decorated = c .before .before .before .before .before .before .before .write-decorated in
-    let put-bytes4 = c .before .before .put-bytes4 in
-    elements.decor-written (args .text .now) (args .words .now) (args .e) (omega (arith, good .0 .0)) (write-decorated .ensures) (x6 .given .1) (put-bytes3 .ensures) (put-bytes4 .ensures)
+    let args = c .before .before .before .before .before .before .before .before .before .before .before .before .before .args in
+    let x6 = c .before .before .before .before .before .before .before .x6 in
+    let write-decorated = c .before .before .write-decorated in
+    elements.decor-written (args .text .now) (args .words .now) (args .e) (x6 .given .1) (write-decorated .ensures)
 
 same-length-7 : tie.Need-same-length-7
 same-length-7 c = search needs
 
 returns-8 : tie.Need-returns-8
 returns-8 c =
-    let args = c .before .before .before .before .before .before .before .before .before .before .before .before .before .before .before .before .before .before .before .before .before .args in
-    let good = c .before .before .before .before .before .before .before .before .before .before .before .before .before .before .before .before .before .before .before .before .before .good in
-    let x7 = c .before .before .before .before .before .before .before .before .before .before .before .before .before .before .before .x7 in
-    let put-bytes5 = c .before .before .before .before .before .before .before .before .before .before .before .put-bytes5 in
-    let write-decorated2 = c .before .before .before .before .before .before .before .write-decorated2 in
-    let put-bytes6 = c .before .before .put-bytes6 in
-    elements.partial-written (args .text .now) (args .words .now) (args .e) (omega (arith, good .0 .0)) (write-decorated2 .ensures) (x7 .given .1) (put-bytes5 .ensures) (put-bytes6 .ensures)
+    let args = c .before .before .before .before .before .before .before .before .before .before .before .before .before .args in
+    let x7 = c .before .before .before .before .before .before .before .x7 in
+    let write-decorated2 = c .before .before .write-decorated2 in
+    elements.partial-written (args .text .now) (args .words .now) (args .e) (x7 .given .1) (write-decorated2 .ensures)
 
 same-length-8 : tie.Need-same-length-8
 same-length-8 c = search needs
 
 returns-9 : tie.Need-returns-9
 returns-9 c =
-    let args = c .before .before .before .before .before .before .before .before .before .before .before .before .before .before .before .before .before .before .before .before .before .args in
-    let good = c .before .before .before .before .before .before .before .before .before .before .before .before .before .before .before .before .before .before .before .before .before .good in
-    let x8 = c .before .before .before .before .before .before .before .before .before .before .before .before .before .before .before .x8 in
-    let put-bytes7 = c .before .before .before .before .before .before .before .before .before .before .before .put-bytes7 in
-    let write-decorated3 = c .before .before .before .before .before .before .before .write-decorated3 in
-    let put-bytes8 = c .before .before .put-bytes8 in
-    elements.decor-block-written (args .text .now) (args .words .now) (args .e) (omega (arith, good .0 .0)) (write-decorated3 .ensures) (x8 .given .1) (put-bytes7 .ensures) (put-bytes8 .ensures)
+    let args = c .before .before .before .before .before .before .before .before .before .before .before .before .before .args in
+    let x8 = c .before .before .before .before .before .before .before .x8 in
+    let write-decorated3 = c .before .before .write-decorated3 in
+    elements.decor-block-written (args .text .now) (args .words .now) (args .e) (x8 .given .1) (write-decorated3 .ensures)
 
 same-length-9 : tie.Need-same-length-9
 same-length-9 c = search needs
 
 returns-10 : tie.Need-returns-10
 returns-10 c =
-    let args = c .before .before .before .before .before .before .before .before .before .before .before .before .before .before .before .before .before .before .before .before .before .args in
-    let good = c .before .before .before .before .before .before .before .before .before .before .before .before .before .before .before .before .before .before .before .before .before .good in
-    let x9 = c .before .before .before .before .before .before .before .before .before .before .before .before .before .before .before .x9 in
-    let put-bytes9 = c .before .before .before .before .before .before .before .before .before .before .before .put-bytes9 in
-    let write-decorated4 = c .before .before .before .before .before .before .before .write-decorated4 in
-    let put-bytes10 = c .before .before .put-bytes10 in
-    elements.partial-block-written (args .text .now) (args .words .now) (args .e) (omega (arith, good .0 .0)) (write-decorated4 .ensures) (x9 .given .1) (put-bytes9 .ensures) (put-bytes10 .ensures)
+    let args = c .before .before .before .before .before .before .before .before .before .before .before .before .before .args in
+    let x9 = c .before .before .before .before .before .before .before .x9 in
+    let write-decorated4 = c .before .before .write-decorated4 in
+    elements.partial-block-written (args .text .now) (args .words .now) (args .e) (x9 .given .1) (write-decorated4 .ensures)
 
 pub write-element-spec : {M : Type 1} → statement M
 write-element-spec =
@@ -247,39 +201,29 @@ write-element-spec =
     enum-known-x-2
     write-comment-requires
     enum-known-x-3
-    slice-aggregate-put-bytes
-    put-bytes-requires
+    slice-aggregate-write-expression
     write-expression-requires
     enum-known-x-4
-    slice-aggregate-put-bytes-2
-    put-bytes-requires-2
+    slice-aggregate-write-expression-2
     write-expression-requires-2
     enum-known-x-5
     write-block-requires
     enum-known-x-6
-    slice-aggregate-put-bytes-3
-    put-bytes-requires-3
+    slice-aggregate-write-decorated
+    slice-aggregate-write-decorated-2
     write-decorated-requires
-    slice-aggregate-put-bytes-4
-    put-bytes-requires-4
     enum-known-x-7
-    slice-aggregate-put-bytes-5
-    put-bytes-requires-5
+    slice-aggregate-write-decorated-3
+    slice-aggregate-write-decorated-4
     write-decorated-requires-2
-    slice-aggregate-put-bytes-6
-    put-bytes-requires-6
     enum-known-x-8
-    slice-aggregate-put-bytes-7
-    put-bytes-requires-7
+    slice-aggregate-write-decorated-5
+    slice-aggregate-write-decorated-6
     write-decorated-requires-3
-    slice-aggregate-put-bytes-8
-    put-bytes-requires-8
     enum-known-x-9
-    slice-aggregate-put-bytes-9
-    put-bytes-requires-9
+    slice-aggregate-write-decorated-7
+    slice-aggregate-write-decorated-8
     write-decorated-requires-4
-    slice-aggregate-put-bytes-10
-    put-bytes-requires-10
     returns
     same-length
     returns-2
