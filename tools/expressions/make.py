@@ -245,10 +245,9 @@ class Reader:
             rest = rest[1:]
         return names, rest
 
-    def expression(self, spans, limit, depth):
-        left, rest = self.tilde(spans)
-        name, rest = self.name(rest, depth)
-        params, keys, block, right = [], {}, [], False
+    def parts(self, spans, limit, depth):
+        """parameters, keys with their last values, block parameters, and whether there is a right tilde"""
+        params, keys, block, right, rest = [], {}, [], False, spans
         while rest and rest[0].end < limit:
             s, rest = rest[0], rest[1:]
             if s.tag == 28:
@@ -261,6 +260,12 @@ class Reader:
                 block, rest = self.block(rest, s.end)
             elif s.tag == 35:
                 right = True
+        return (params, keys, block, right), rest
+
+    def expression(self, spans, limit, depth):
+        left, rest = self.tilde(spans)
+        name, rest = self.name(rest, depth)
+        (params, keys, block, right), rest = self.parts(rest, limit, depth)
         shown = b" %d" % left + name[0] + (b" nameless" if name[1] is None else quoted(name[1]))
         shown += b"".join(b" param" + p for p in params)
         shown += b"".join(b" key" + quoted(k) + keys[k] for k in sorted(keys))

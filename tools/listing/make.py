@@ -67,17 +67,7 @@ class Lister(expressions.Reader):
         """name, parameters, keys; and the block parameters"""
         _, rest = self.tilde(spans)
         name, rest = self.name(rest, depth)
-        params, keys, block = [], {}, []
-        while rest and rest[0].end < limit:
-            s, rest = rest[0], rest[1:]
-            if s.tag == 28:
-                p, rest = self.param(rest, depth)
-                params.append(p[0])
-            elif s.tag == 32:
-                (k, v), rest = self.hash(rest, depth)
-                keys[k] = v
-            elif s.tag == 33:
-                block, rest = self.block(rest, s.end)
+        (params, keys, block, _), rest = self.parts(rest, limit, depth)
         call = name[0] + b"".join(params)
         call += b"".join(b"[key " + quoted(k) + b"\n" + keys[k] + b"]\n" for k in sorted(keys))
         names = b"[as " + b" ".join(map(quoted, block)) + b"]\n" if block else b""
