@@ -7,6 +7,7 @@ use lib.ListN.{length, getD, drop, drop-of-length-le}
 use lib.Seq.{drop-drop}
 use borrow.Author.Tests.{le-leb, lt-leb, eq-eqb, ne-eqb}
 use Rattle.support.specs.Bytes.{Bytes}
+use Rattle.support.proofs.WhiteLaws.{at-offset}
 use Rattle.card.specs.Number.{leadingDigits, decimal}
 use Rattle.card.specs.Read.{Read, read, other, andThen, isNumber, readMark, readField}
 use Rattle.card.specs.Answers.{DigitsIs, FieldIs, LineIs}
@@ -15,7 +16,7 @@ use Rattle.card.specs.declared.read.Field.{Field}
 use Rattle.card.specs.declared.read.Field.the-variants as Field
 use Rattle.card.specs.declared.read.Line.{Line}
 use Rattle.card.specs.declared.read.Line.the-variants as Line
-use Rattle.card.proofs.Numbers.{at-offset, leading-all, few-fit}
+use Rattle.card.proofs.Numbers.{leading-all, few-fit}
 use Rattle.card.proofs.Fields.{field-no, field-yes, line-no-tag, line-no-start, line-no-end, line-yes}
 
 -- ---- the byte at an offset

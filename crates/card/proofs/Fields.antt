@@ -8,10 +8,11 @@ use lib.Dec.{leb, eqb}
 use lib.ListN.{length, drop, length-append}
 use borrow.Author.Tests.{leb-true, eqb-true}
 use Rattle.support.specs.Bytes.{Bytes, if}
+use Rattle.support.proofs.Table.{and-left, and-right}
 use Rattle.card.specs.Number.{leadingDigits, decimal}
 use Rattle.card.specs.Card.{maxDigits}
 use Rattle.card.specs.Read.{Read, read, other, andThen, isNumber, readMark, readField, readLine}
-use Rattle.card.proofs.Numbers.{and-left, and-right, leading-split}
+use Rattle.card.proofs.Numbers.{leading-split}
 
 -- what is read otherwise is not read
 pub not-both : {A : Type 0} {B : Type 0} {a : A} {r : Bytes} {x : Read A} → x ≡ other → x ≡ read a r → B

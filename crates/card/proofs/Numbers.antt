@@ -2,27 +2,19 @@
 -- Assumes nothing.
 use Prim.Native.Nat.{ℕ, zero, suc, _+_, _-_, _*_, _≤_, _<_, min}
 use native.Mathlib.Omega.{arith}
-use native.Mathlib.Numerals.{add-one}
 use mathlib.Core.Path.{_≡_, refl, sym, ap, _∙_}
 use mathlib.Core.Bool.{Bool, true, false, _&&_}
 use mathlib.Core.List.{[], _∷_, _++_}
 use lib.Dec.{leb}
 use lib.ListN.{length, getD, drop, drop-of-length-le}
-use lib.Seq.{drop-cons}
 use borrow.Author.Tests.{leb-true, leb-false}
 use Rattle.support.specs.Bytes.{Bytes}
+use Rattle.support.proofs.Table.{and-left, and-right}
+use Rattle.support.proofs.WhiteLaws.{at-offset}
 use Rattle.card.specs.Number.{isDigit, allDigits, leadingDigits, decimalFrom, decimal, largest}
 use Rattle.card.specs.Answers.{DigitsIs}
 
 -- ---- a digit is 48 to 57
-
-pub and-left : (a b : Bool) → a && b ≡ true → a ≡ true
-and-left true b e = refl
-and-left false b e = e
-
-pub and-right : (a b : Bool) → a && b ≡ true → b ≡ true
-and-right true b e = e
-and-right false b e = cc
 
 module _ (c : ℕ) (e : isDigit c ≡ true) where
   pub digit-least : 48 ≤ c
@@ -34,9 +26,6 @@ module _ (c : ℕ) (e : isDigit c ≡ true) where
   digit-most = leb-true c 57 (and-right (leb 48 c) (leb c 57) e)
 
 -- ---- the digits that bytes start with
-
-pub at-offset : (s : Bytes) (i : ℕ) → i < length s → drop i s ≡ getD s i 0 ∷ drop (i + 1) s
-at-offset s i h = rw (add-one, drop-cons s i 0)
 
 pub leading-on : (c : ℕ) (s : Bytes) → isDigit c ≡ true → leadingDigits (c ∷ s) ≡ c ∷ leadingDigits s
 unfolding leadingDigits

@@ -9,11 +9,12 @@ use lib.ListN.{length, getD, take, drop, set, length-append, length-drop, drop-o
 use lib.Seq.{drop-drop, length-take-le, sets, length-sets}
 use borrow.Author.Tests.{eq-eqb, ne-eqb}
 use Rattle.support.specs.Bytes.{Bytes, part}
+use Rattle.support.proofs.WhiteLaws.{at-offset}
 use Rattle.card.specs.Number.{leadingDigits}
 use Rattle.card.specs.Answers.{DigitsIs, Stores}
 use Rattle.card.specs.Stored.{firstLine, firstNumber, afterNumber, numbersBy, numbers, FirstLineIs, WordsIs}
 use Rattle.card.specs.declared.number.Digits.{Digits}
-use Rattle.card.proofs.Numbers.{at-offset, leading-split}
+use Rattle.card.proofs.Numbers.{leading-split}
 use Rattle.card.proofs.Stores.{stored-more, stored-out}
 
 -- ---- the first line
