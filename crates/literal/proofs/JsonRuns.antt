@@ -5,9 +5,9 @@ use mathlib.Core.Bool.{Bool, true, false, not, _&&_, _||_}
 use mathlib.Core.List.{List, [], _∷_, _++_}
 use mathlib.Core.Logic.{_⊎_, inl, inr}
 use mathlib.Core.Path.{_≡_, refl, sym, ap, _∙_}
-use lib.Dec.{T, ltb, eqb, leb, leb→le}
+use lib.Dec.{T, eqb, leb, leb→le}
 use lib.ListN.{length}
-use borrow.Author.Tests.{eqb-true, eq-eqb, ne-eqb, le-leb, lt-leb, ltb-true, ltb-false}
+use borrow.Author.Tests.{eqb-true, eq-eqb, ne-eqb, le-leb, lt-leb}
 use Rattle.support.specs.Bytes.{Bytes, ascii, if}
 use Rattle.literal.specs.Json.{isSpace, isDigit, isUnescaped, isEscaped, isHex, isHigh, isLow, all, Space, space, hex, worth, Char, unescaped, escaped, unicode, pair, Digits, digits, Int, nonzero, Fraction, noFraction, fraction, Sign, noSign, plus, Exponent, noExponent, exponent, Number, parts, Value, falseName, nullName, trueName, number, string, array, object, Items, noItems, items, MoreItems, closeArray, nextItem, Members, noMembers, members, Member, member, MoreMembers, closeObject, nextMember, spaceBytes, charBytes, charsBytes, digitsBytes, intBytes, fractionBytes, signBytes, exponentBytes, numberBytes, yield, yieldItems, yieldMoreItems, yieldMembers, yieldMember, yieldMoreMembers, JsonText}
 use Rattle.literal.specs.Json as J
@@ -15,7 +15,7 @@ use Rattle.literal.specs.Limits.{digitCount, fractionDigits, exponentDig
 use Rattle.literal.specs.Literal.{Verdict, valid, invalid, over, modeFits, fits, run, verdict}
 use Rattle.literal.specs.Scan.{Open, Num, Mode, Str, on, isD, valueStep, keyStep, afterStep, numberStep, stringStep, step}
 use Rattle.literal.specs.Scan as S
-use Rattle.literal.proofs.Bits.{T-true, T-not, and-left, and-right, true-or-false, yes, no, among-all}
+use Rattle.literal.proofs.Bits.{T-true, T-not, and-left, and-right, true-or-false, below-or-not, yes, no, among-all}
 use Rattle.literal.proofs.Surrogates.{high-parts, low-parts, plain-no-high, plain-no-low}
 
 -- single bytes
@@ -43,13 +43,6 @@ deep st m h = rw (lt-leb (length st) 32 h)
 passes : (st : List Open) (m : Mode) → length st ≤ 32 → modeFits m ≡ false → fits st m ≡ false
 unfolding fits
 passes st m h e = rw (le-leb (length st) 32 h, e)
-
-below-or-not : (a b : ℕ) → (a < b) ⊎ (b ≤ a)
-below-or-not a b = go (ltb a b) refl
-  where
-    go : (t : Bool) → ltb a b ≡ t → (a < b) ⊎ (b ≤ a)
-    go true e = inl (ltb-true a b e)
-    go false e = inr (ltb-false a b e)
 
 -- what follows a number: no digit, no point, no e
 unfoldable Stop : Bytes → Type 0
