@@ -4,7 +4,7 @@ use Prim.Native.Nat.{ℕ, zero, suc, _+_, _-_, _*_, _≤_, _<_}
 use native.Mathlib.Omega.{arith}
 use mathlib.Core.Path.{_≡_, refl, sym, ap, subst, _∙_}
 use mathlib.Core.List.{List, [], _∷_}
-use mathlib.Core.Bool.{Bool, true, false, _&&_}
+use mathlib.Core.Bool.{Bool, false, and-false}
 use lib.Dec.{leb}
 use lib.ListN.{length}
 use borrow.Author.Tests.{ne-eqb, lt-ltb, le-ltb, le-leb, lt-leb}
@@ -89,11 +89,7 @@ pub below-name : (s : Span) → s .tag < 21 → isName s ≡ false
 below-name s h = rw (lt-leb 21 (s .tag) h)
 
 pub above-name : (s : Span) → 25 < s .tag → isName s ≡ false
-above-name s h = rw (lt-leb (s .tag) 25 h) (go (leb 21 (s .tag)))
-  where
-    go : (t : Bool) → t && false ≡ false
-    go true = refl
-    go false = refl
+above-name s h = rw (lt-leb (s .tag) 25 h) (and-false (leb 21 (s .tag)))
 
 -- ---- a parameter
 

@@ -9,6 +9,7 @@ use lib.ListN.{length, getD, drop, length-drop, drop-of-length-le, List·getD-eq
 use lib.Seq.{drop-drop, getD-drop}
 use borrow.Author.Tests.{eq-eqb, ne-eqb, eqb-true, eqb-false, ltb-true, ltb-false}
 use Rattle.support.specs.Bytes.{Bytes}
+use Rattle.support.proofs.Characters.{at-zero}
 use Rattle.literal.specs.Literal as literal
 use Rattle.literal.specs.Means.{stateRuns, fedRuns, FedIs}
 use Rattle.literal.specs.Requote.{unescapeSingle, singleAt, escapeDouble, rewritten, leftAt, quotedMeans}
@@ -51,9 +52,6 @@ escape-other c s e = sym (one (92 ∷ 34 ∷ escapeDouble s) (c ∷ escapeDouble
 escape-quote : (c : ℕ) (s : Bytes) → c ≡ 34 → escapeDouble (c ∷ s) ≡ 92 ∷ 34 ∷ escapeDouble s
 unfolding escapeDouble
 escape-quote c s e = sym (one (92 ∷ 34 ∷ escapeDouble s) (c ∷ escapeDouble s) (eq-eqb c 34 e))
-
-at-zero : (t : Bytes) (i : ℕ) → getD (drop i t) 0 0 ≡ getD t i 0
-at-zero t i = getD-drop i t 0 0 ∙ (let q : i + 0 ≡ i = omega arith in rw q)
 
 pub single-is : (t : Bytes) (i : ℕ) (a b : Bool) → eqb (getD t i 0) 92 ≡ a → eqb (getD t (i + 1) 0) 39 ≡ b → a && b ≡ singleAt t i
 single-is t i a b e f = ap (λ z. z && b) (sym e) ∙ ap (λ z. eqb (getD t i 0) 92 && z) (sym f)

@@ -4,7 +4,7 @@ use native.Mathlib.Omega.{arith}
 use native.Mathlib.Numerals.{add-one}
 use mathlib.Core.Path.{_≡_, refl, sym, ap, ap₂, _∙_}
 use mathlib.Core.List.{[], _∷_, _++_, reverse, reverse-append, reverse-reverse}
-use mathlib.Core.Bool.{Bool, true, false, _&&_}
+use mathlib.Core.Bool.{Bool, true, false, _&&_, and-false}
 use lib.Dec.{eqb, ltb}
 use lib.ListN.{length, getD, take, drop, length-drop, length-reverse, take-append-drop, drop-of-length-le}
 use lib.Seq.{take-nil, drop-cons, take-suc, take-all, length-take-le, drop-append-le}
@@ -24,6 +24,10 @@ module _ (t : Bytes) (a e : ℕ) where
   pub part-over : length t < e → take (length t - a) (drop a t) ≡ part t a e
   part-over h = from-here t a ∙ sym (take-all (e - a) (drop a t) (omega (arith, length-drop a t)))
 
+pub no-bytes : (s : Bytes) → length s ≡ 0 → s ≡ []
+no-bytes [] e = refl
+no-bytes (b ∷ s) e = absurd (omega arith)
+
 -- ---- the bytes before an offset, last first
 
 pub before-snoc : (s : Bytes) (e : ℕ) → 0 < e → e ≤ length s → reverse (take e s) ≡ getD s (e - 1) 0 ∷ reverse (take (e - 1) s)
@@ -33,10 +37,6 @@ before-snoc s (suc e) h k =
     rw q (ap reverse (take-suc s e 0 (omega arith)) ∙ reverse-append (take e s) (getD s e 0 ∷ []))
 
 -- ---- equal bytes
-
-and-false : (b : Bool) → b && false ≡ false
-and-false true = refl
-and-false false = refl
 
 pub same-lengths : (s t : Bytes) → (length s ≡ length t → ⊥) → sameBytes s t ≡ false
 unfolding sameBytes
