@@ -5,12 +5,13 @@ use mathlib.Core.Path.{_≡_, refl, sym, ap, subst, _∙_}
 use mathlib.Core.List.{List, [], _∷_, _++_, append-assoc, append-nil}
 use mathlib.Core.Option.{none, some}
 use lib.ListN.{length, getD, drop, set, length-append, length-drop}
-use lib.Seq.{sets}
+use lib.Seq.{sets, length-sets}
 use borrow.Author.Tests.{le-leb, lt-leb}
 use Rattle.support.specs.Bytes.{Bytes}
+use Rattle.support.proofs.ByteLaws.{no-bytes}
 use Rattle.card.specs.Card.{maxBytes, said}
-use Rattle.card.specs.Read.{Read, read, other, readMark, readField, Lines, lines, readLines, readText, readCard, lineWords, lineRest, storedWords}
-use Rattle.card.specs.Answers.{LineIs, Stores, LinesIs, answerOf, CardIs}
+use Rattle.card.specs.Read.{Read, read, other, readMark, readField, Lines, lines, readLines, readText, readCard, lineWords, lineRest}
+use Rattle.card.specs.Answers.{LineIs, LinesIs, answerOf, wordsOf, CardIs}
 use Rattle.card.specs.declared.read.Line.{Line}
 use Rattle.card.specs.declared.read.Line.the-variants as Line
 use Rattle.card.specs.declared.read.SpanLine as declared
@@ -97,69 +98,59 @@ module _ (s : Bytes) where
   unfolding readCard
   card-long h = rw (lt-leb (length s) maxBytes h, readCard)
 
-  stored-long : maxBytes < length s → storedWords s ≡ []
-  unfolding storedWords
-  stored-long h = rw (lt-leb (length s) maxBytes h, storedWords)
-
   module _ (h : length s ≤ maxBytes) where
     pub card-no-options : readField 10 s ≡ other → readCard s ≡ none
     unfolding readCard
     card-no-options e = rw (le-leb (length s) maxBytes h, e, readCard)
 
-    stored-no-options : readField 10 s ≡ other → storedWords s ≡ []
-    unfolding storedWords
-    stored-no-options e = rw (le-leb (length s) maxBytes h, e, storedWords)
-
     pub card-options : (o : ℕ) (r : Bytes) → readField 10 s ≡ read o r → readCard s ≡ readText o (readLines r)
     unfolding readCard
     card-options o r e = rw (le-leb (length s) maxBytes h, e, readCard)
 
-    pub stored-options : (o : ℕ) (r : Bytes) → readField 10 s ≡ read o r → storedWords s ≡ lineWords (readLines r)
-    unfolding storedWords
-    stored-options o r e = rw (le-leb (length s) maxBytes h, e, storedWords)
-
--- where no line is read, nothing is stored
-untouched : (s : Bytes) (l : List ℕ) → readCard s ≡ none → storedWords s ≡ [] → CardIs s l l CardRead.Other
-untouched s l e f = record { answer = ap (answerOf s) (sym e); stored = ap (sets l 0) (sym f) }
+-- other input: nothing is stored
+untouched : (s : Bytes) (l : List ℕ) → readCard s ≡ none → CardIs s l l CardRead.Other
+untouched s l e = record { answer = ap (answerOf s) (sym e); stored = ap (λ x. sets l 0 (wordsOf x)) (sym e) }
 
 pub too-long : (s : Bytes) (l : List ℕ) → maxBytes < length s → CardIs s l l CardRead.Other
-too-long s l h = untouched s l (card-long s h) (stored-long s h)
+too-long s l h = untouched s l (card-long s h)
 
 module _ {s : Bytes} (h : length s ≤ maxBytes) where
   pub no-options : (l : List ℕ) → readField 10 s ≡ other → CardIs s l l CardRead.Other
-  no-options l e = untouched s l (card-no-options s h e) (stored-no-options s h e)
+  no-options l e = untouched s l (card-no-options s h e)
 
-  module _ {o from : ℕ} (f : Found s 0 10 o from) {l m : List ℕ} {x : declared-lines.Lines} (g : LinesIs s from l m x) where
-    kept : Stores (storedWords s) l m
-    kept = g .stored ∙ ap (sets l 0) (sym (stored-options s h o (drop from s) (f .reads)))
-
+  -- the span lines are read over no words
+  module _ {o from : ℕ} (f : Found s 0 10 o from) {m : List ℕ} {x : declared-lines.Lines} (g : LinesIs s from [] m x) where
     text-at : {y : Read ℕ} → readMark 10 (drop (x .next) s) ≡ y → readMark 10 (lineRest (readLines (drop from s))) ≡ y
     text-at e = ap (readMark 10) (g .rest) ∙ e
 
-    no-text : readMark 10 (drop (x .next) s) ≡ other → CardIs s l m CardRead.Other
-    no-text e =
-        record {
-          answer = ap (answerOf s) (sym (card-options s h o (drop from s) (f .reads) ∙ text-other o (readLines (drop from s)) (text-at e)));
-          stored = kept;
-        }
+    -- which leaves the lent ones as they were
+    module _ (l : List ℕ) where
+      same : m ++ l ≡ l
+      same = ap (_++ l) (no-bytes m (ap length (g .stored) ∙ length-sets [] 0 (lineWords (readLines (drop from s)))))
 
-    pub ended : length s ≤ x .next → CardIs s l m CardRead.Other
-    ended e = no-text (mark-past 10 s (x .next) e)
+      no-text : readMark 10 (drop (x .next) s) ≡ other → CardIs s l (m ++ l) CardRead.Other
+      no-text e = rw same (untouched s l (card-options s h o (drop from s) (f .reads) ∙ text-other o (readLines (drop from s)) (text-at e)))
 
-    module _ (k : x .next < length s) where
-      pub not-empty : (getD s (x .next) 0 ≡ 10 → ⊥) → CardIs s l m CardRead.Other
-      not-empty e = no-text (mark-other 10 s (x .next) k e)
+      pub ended : length s ≤ x .next → CardIs s l (m ++ l) CardRead.Other
+      ended e = no-text (mark-past 10 s (x .next) e)
 
-      pub card-found : getD s (x .next) 0 ≡ 10 → CardIs s l m (CardRead.Card (record { options = o; words = x .words; text = x .next + 1 }))
-      card-found e =
-          let text : Bytes = drop (x .next + 1) s in
-          let found = text-read o (readLines (drop from s)) (getD s (x .next) 0) text (text-at (mark-here 10 s (x .next) k e)) in
-          let d = length-drop (x .next + 1) s in
-          let t : x .next + 1 ≡ length s - length text = omega arith in
-          record {
-            answer =
-                ap (λ z. CardRead.Card (record { options = o; words = z; text = x .next + 1 })) (g .words)
-                ∙ ap (λ z. CardRead.Card (record { options = o; words = length (lineWords (readLines (drop from s))); text = z })) t
-                ∙ ap (answerOf s) (sym (card-options s h o (drop from s) (f .reads) ∙ found));
-            stored = kept;
-          }
+      module _ (k : x .next < length s) where
+        pub not-empty : (getD s (x .next) 0 ≡ 10 → ⊥) → CardIs s l (m ++ l) CardRead.Other
+        not-empty e = no-text (mark-other 10 s (x .next) k e)
+
+        -- and then over l
+        pub card-found : getD s (x .next) 0 ≡ 10 → {n : List ℕ} {y : declared-lines.Lines} → LinesIs s from (m ++ l) n y
+            → CardIs s l n (CardRead.Card (record { options = o; words = y .words; text = x .next + 1 }))
+        card-found e {n} {y} i =
+            let text : Bytes = drop (x .next + 1) s in
+            let read-as = text-read o (readLines (drop from s)) (getD s (x .next) 0) text (text-at (mark-here 10 s (x .next) k e)) in
+            let found = card-options s h o (drop from s) (f .reads) ∙ read-as in
+            let d = length-drop (x .next + 1) s in
+            let t : x .next + 1 ≡ length s - length text = omega arith in
+            record {
+              answer =
+                  ap (λ z. CardRead.Card (record { options = o; words = z; text = x .next + 1 })) (i .words)
+                  ∙ ap (λ z. CardRead.Card (record { options = o; words = length (lineWords (readLines (drop from s))); text = z })) t
+                  ∙ ap (answerOf s) (sym found);
+              stored = i .stored ∙ ap (λ z. sets z 0 (lineWords (readLines (drop from s)))) same ∙ ap (λ z. sets l 0 (wordsOf z)) (sym found);
+            }

@@ -13,11 +13,11 @@ use borrow.Author.Tests.{leb-true, leb-false, le-leb, eq-eqb, eqb-true}
 use Rattle.support.specs.Bytes.{Bytes, if}
 use Rattle.card.specs.Number.{isDigit, leadingDigits, decimal}
 use Rattle.card.specs.Card.{maxBytes, maxDigits, Number, SpanLine, Card, writeField, writeLine, writeLines, write, IsCard, Said, said, spanWords, says}
-use Rattle.card.specs.Read.{Read, read, other, andThen, isNumber, readMark, readField, readLine, Lines, lines, prepend, linesBy, readLines, lineWords, lineRest, readText, readCard, storedWords}
+use Rattle.card.specs.Read.{Read, read, other, andThen, isNumber, readMark, readField, readLine, Lines, lines, prepend, linesBy, readLines, lineWords, lineRest, readText, readCard}
 use Rattle.card.proofs.Numbers.{leading-all, leading-before}
 use Rattle.card.proofs.Fields.{field-no, field-yes, Taken, field-taken, line-no-tag, line-yes, LineTaken, line-taken}
 use Rattle.card.proofs.Lines.{by-read, by-other, lines-read, lines-other, words-prepend, rest-prepend}
-use Rattle.card.proofs.CardLaws.{card-long, card-no-options, card-options, stored-options}
+use Rattle.card.proofs.CardLaws.{card-long, card-no-options, card-options}
 
 -- ---- what is written is read
 
@@ -67,14 +67,6 @@ card-is-read s c h =
     let r : Bytes = writeLines (c .spans) (10 ∷ c .text) in
     card-options s (h .within) (decimal (c .options .digits)) r (ap (readField 10) (h .written) ∙ field-written (c .options) 10 refl r)
     ∙ ap (readText (decimal (c .options .digits))) (lines-written (c .spans) (c .text))
-
--- and its words are stored
-pub card-is-stored : (s : Bytes) (c : Card) → IsCard s c → storedWords s ≡ spanWords (c .spans)
-unfolding isDigit
-card-is-stored s c h =
-    let r : Bytes = writeLines (c .spans) (10 ∷ c .text) in
-    stored-options s (h .within) (decimal (c .options .digits)) r (ap (readField 10) (h .written) ∙ field-written (c .options) 10 refl r)
-    ∙ ap lineWords (lines-written (c .spans) (c .text))
 
 -- ---- what is read is written
 

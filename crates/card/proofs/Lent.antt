@@ -9,12 +9,12 @@ use lib.ListN.{length, take, drop, replicate, length-replicate}
 use lib.Seq.{take-at, sets, sets-eq, length-sets}
 use Rattle.support.specs.Bytes.{Bytes}
 use Rattle.card.specs.Card.{maxBytes, Said, said}
-use Rattle.card.specs.Read.{readCard, storedWords}
-use Rattle.card.specs.Answers.{Stores, answerOf, CardIs}
+use Rattle.card.specs.Read.{readCard}
+use Rattle.card.specs.Answers.{Stores, answerOf, wordsOf, CardIs}
 use Rattle.card.specs.declared.read.Card as declared
 use Rattle.card.specs.declared.read.CardRead.{CardRead}
 use Rattle.card.specs.declared.read.CardRead.the-variants as CardRead
-use Rattle.card.proofs.Grammar.{card-is-stored, read-is-card, words-fit, text-last}
+use Rattle.card.proofs.Grammar.{read-is-card, words-fit, text-last}
 
 -- c is what s, a card, says, with the words in m, which was l
 pub record Lent (s : Bytes) (l m : List ℕ) (c : declared.Card) : Type 0 where
@@ -23,19 +23,19 @@ pub record Lent (s : Bytes) (l m : List ℕ) (c : declared.Card) : Type 0 where
   pub part : c .words ≡ length (take (c .words) m)
   pub text : c .text ≤ length s
 
-module _ {s : Bytes} {l m : List ℕ} (h : Stores (storedWords s) l m) (k : maxBytes ≤ 2 * length l) where
+module _ {s : Bytes} {l m : List ℕ} (h : Stores (wordsOf (readCard s)) l m) (k : maxBytes ≤ 2 * length l) where
   lent-of : (c : declared.Card) (x : Option Said) → readCard s ≡ x → CardRead.Card c ≡ answerOf s x → Lent s l m c
   lent-of c none e q = let z : _≡_ {A = ℕ} 0 1 = cc in absurd (omega arith)
   lent-of c (some (said o ws t)) e q =
       let f = read-is-card s (said o ws t) e in
-      let w : storedWords s ≡ ws = (let i = card-is-stored s (f .card) (f .is) in let j = f .means in cc) in
+      let w : wordsOf (readCard s) ≡ ws = ap wordsOf e in
       let b : f .card .text ≡ t = (let j = f .means in cc) in
       let u : drop (length s - length t) s ≡ t = (let i = text-last s (f .card) (f .is .written) in rw b at i) in
       let n = words-fit s o ws t e in
       let y : 0 + length ws ≡ length ws = omega arith in
       let v : m ≡ ws ++ drop (length ws) l = h ∙ ap (sets l 0) w ∙ sets-eq ws l 0 (omega arith) ∙ ap (λ i. ws ++ drop i l) y in
       let g : take (length ws) m ≡ ws = ap (take (length ws)) v ∙ take-at ws (drop (length ws) l) (length ws) refl in
-      let d : length m ≡ length l = ap length h ∙ length-sets l 0 (storedWords s) in
+      let d : length m ≡ length l = ap length h ∙ length-sets l 0 (wordsOf (readCard s)) in
       let ce : c ≡ record { options = o; words = length ws; text = length s - length t } = cc in
       rw ce (record {
         reads = e ∙ ap (λ z. some (said o z t)) (sym g) ∙ ap (λ z. some (said o (take (length ws) m) z)) (sym u);

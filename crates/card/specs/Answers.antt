@@ -8,7 +8,7 @@ use lib.Seq.{sets}
 use Rattle.support.specs.Bytes.{Bytes}
 use Rattle.card.specs.Number.{leadingDigits, decimal, largest}
 use Rattle.card.specs.Card.{Said, said}
-use Rattle.card.specs.Read.{Read, read, other, readField, readLine, readLines, lineWords, lineRest, readCard, storedWords}
+use Rattle.card.specs.Read.{Read, read, other, readField, readLine, readLines, lineWords, lineRest, readCard}
 use Rattle.card.specs.declared.number.Digits.{Digits}
 use Rattle.card.specs.declared.read.CardRead.{CardRead}
 use Rattle.card.specs.declared.read.CardRead.the-variants as CardRead
@@ -72,12 +72,17 @@ abbrev pub answerOf : Bytes → Option Said → CardRead
 answerOf s (some (said options ws text)) = CardRead.Card (record { options = options; words = length ws; text = length s - length text })
 answerOf s none = CardRead.Other
 
+-- the words that are stored for what is read: the card's; for other input none
+abbrev pub wordsOf : Option Said → List ℕ
+wordsOf (some (said options ws text)) = ws
+wordsOf none = []
+
 -- document 01's number for other input, which is turned away at place 0; 0 for a card
 abbrev pub numberOf : CardRead → ℕ
 numberOf (CardRead.Card c) = 0
 numberOf CardRead.Other = 15
 
--- r answers for the bytes s, and the words of the span lines behind the options line are stored in l, which gives m
+-- r answers for the bytes s. The words of a card are stored in l, which gives m; other input leaves l as it was
 pub record CardIs (s : Bytes) (l m : List ℕ) (r : CardRead) : Type 0 where
   pub answer : r ≡ answerOf s (readCard s)
-  pub stored : Stores (storedWords s) l m
+  pub stored : Stores (wordsOf (readCard s)) l m

@@ -70,7 +70,3 @@ lineWords (lines ws rest) = ws
 
 abbrev pub lineRest : Lines → Bytes
 lineRest (lines ws rest) = rest
-
--- the words of the span lines behind the options line, of other input too: they are stored as they are read
-unfoldable pub storedWords : Bytes → List ℕ
-storedWords s = if (leb (length s) maxBytes) (elim (readField 10 s) [ read options r ↦ lineWords (readLines r) | other ↦ [] ]) []

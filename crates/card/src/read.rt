@@ -128,7 +128,8 @@ fn read_lines(input: &[u8], from: usize, words: &mut [u32]) -> Lines
     }
 }
 
-// Reads a card. The words of its spans are stored as they are read, as far as there is room.
+// Reads a card. The words of its spans are stored, as far as there is room. The span lines are read
+// over no words first, so that other input changes nothing.
 pub fn read_card(input: &[u8], words: &mut [u32]) -> CardRead
     ensures { λ r. ⌜ CardIs (now (input .entry)) (now (words .entry)) (now (words .exit)) r ⌝ }
 {
@@ -139,14 +140,15 @@ pub fn read_card(input: &[u8], words: &mut [u32]) -> CardRead
     let Field::Number(options, from) = first else {
         return CardRead::Other;
     };
-    let lines = read_lines(input, from, words);
-    let end = lines.next;
+    let probe = read_lines(input, from, &mut words[0..0]);
+    let end = probe.next;
     if input.len() <= end {
         return CardRead::Other;
     }
     if input[end] != b'\n' {
         return CardRead::Other;
     }
+    let lines = read_lines(input, from, words);
     CardRead::Card(Card {
         options: options,
         words: lines.words,
