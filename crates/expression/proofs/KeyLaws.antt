@@ -9,7 +9,7 @@ use Rattle.expression.specs.Expression.{Param, Keys, noKeys, key, Part, 
 use Rattle.expression.specs.Again.{isAbove, keysAbove}
 use Rattle.expression.specs.Least.{lower, leastOf}
 use Rattle.support.proofs.ByteLaws.{same-true}
-use Rattle.expression.proofs.Order.{never, irreflexive, transitive, asymmetric, not-before, comes-after}
+use Rattle.expression.proofs.Order.{never, irreflexive, transitive, above-more, asymmetric, not-before, comes-after}
 
 -- k stands before every key
 abbrev Below : Bytes → Keys → Type 0
@@ -69,10 +69,6 @@ above-cons : (b : Option Bytes) (k : Bytes) (v : Param) (ks : Keys) (t : Bool) �
     → keysAbove b (key k v ks) ≡ kept t k v (keysAbove b ks)
 unfolding keysAbove
 above-cons b k v ks t e = rw (e, keysAbove)
-
-above-more : (b : Option Bytes) (j k : Bytes) → isAbove b j ≡ true → precedes j k ≡ true → isAbove b k ≡ true
-above-more none j k h e = refl
-above-more (some i) j k h e = transitive i j k h e
 
 -- every key is above the bound
 all-above : (b : Option Bytes) (j : Bytes) (ks : Keys) → isAbove b j ≡ true → Below j ks → keysAbove b ks ≡ ks

@@ -4,10 +4,12 @@ use native.Mathlib.Omega.{arith}
 use mathlib.Core.Path.{_≡_, refl, sym, ap, _∙_}
 use mathlib.Core.List.{[], _∷_}
 use mathlib.Core.Bool.{Bool, true, false}
+use mathlib.Core.Option.{Option, none, some}
 use lib.Dec.{eqb, ltb}
 use borrow.Author.Tests.{eq-eqb, ne-eqb, eqb-true, eqb-false, lt-ltb, ltb-true, ltb-false}
 use Rattle.support.specs.Bytes.{Bytes, if, sameBytes, precedes}
 use Rattle.support.proofs.ByteLaws.{same-refl}
+use Rattle.expression.specs.Again.{isAbove}
 
 pub data Order (a b : Bytes) : Type 0 where
   before : precedes a b ≡ true → Order a b
@@ -57,6 +59,11 @@ transitive (x ∷ a) (y ∷ b) (z ∷ c) h k = go (eqb x y) refl (eqb y z) refl 
     go true e false f h k r = let q = eqb-true x y e in let l = ltb-true y z k in precedes-first x z a c (omega arith)
     go false e true f h k r = let q = eqb-true y z f in let l = ltb-true x y h in precedes-first x z a c (omega arith)
     go false e false f h k r = let l = ltb-true x y h in let m = ltb-true y z k in precedes-first x z a c (omega arith)
+
+-- what comes after a key above a bound is above it too
+pub above-more : (b : Option Bytes) (j k : Bytes) → isAbove b j ≡ true → precedes j k ≡ true → isAbove b k ≡ true
+above-more none j k h e = refl
+above-more (some i) j k h e = transitive i j k h e
 
 pub never : {b : Bool} → b ≡ true → b ≡ false → ⊥
 never e f = let z : _≡_ {A = ℕ} 0 1 = cc in absurd (omega arith)

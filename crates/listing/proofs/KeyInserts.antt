@@ -4,12 +4,12 @@ use Prim.Native.Nat.{ℕ, _+_, _≤_, _<_}
 use native.Mathlib.Omega.{arith}
 use mathlib.Core.Path.{_≡_, refl, sym, ap, _∙_}
 use mathlib.Core.Bool.{Bool, true, false}
-use mathlib.Core.Option.{Option, none, some}
+use mathlib.Core.Option.{Option, some}
 use Rattle.support.specs.Bytes.{Bytes, if, sameBytes, precedes}
 use Rattle.support.proofs.ByteLaws.{same-refl, same-true}
 use Rattle.expression.specs.Expression.{Param, Keys, noKeys, key, insertKey}
 use Rattle.expression.specs.Again.{isAbove}
-use Rattle.expression.proofs.Order.{Order, before, equal, after, order, irreflexive, transitive, asymmetric, never}
+use Rattle.expression.proofs.Order.{Order, before, equal, after, order, irreflexive, transitive, above-more, asymmetric, never}
 
 not-same : (a b : Bytes) → precedes a b ≡ true → sameBytes a b ≡ false
 not-same a b h = go (sameBytes a b) refl
@@ -88,10 +88,6 @@ countAbove b (key k v ks) = if (isAbove b k) 1 0 + countAbove b ks
 count-head : (b : Option Bytes) (k : Bytes) (v : Param) (ks : Keys) (t : Bool) → isAbove b k ≡ t
     → countAbove b (key k v ks) ≡ if t 1 0 + countAbove b ks
 count-head b k v ks t e = rw e
-
-above-more : (b : Option Bytes) (j k : Bytes) → isAbove b j ≡ true → precedes j k ≡ true → isAbove b k ≡ true
-above-more none j k h e = refl
-above-more (some i) j k h e = transitive i j k h e
 
 count-less : (b : Option Bytes) (j : Bytes) (ks : Keys) → isAbove b j ≡ true → countAbove (some j) ks ≤ countAbove b ks
 count-less b j noKeys h = omega arith
