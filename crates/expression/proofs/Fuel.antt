@@ -55,7 +55,7 @@ fine-fail h = record { good = λ s l. h }
 pub fine-pure : {A : Type 0} {n b : ℕ} {a : A} → n ≤ b → Fine n b (pure a)
 fine-pure h = record { good = λ s l. omega arith }
 
-skip-shorter : (l : ℕ) (s : List Span) → length (skipTo l s) ≤ length s
+pub skip-shorter : (l : ℕ) (s : List Span) → length (skipTo l s) ≤ length s
 unfolding skipTo
 skip-shorter l [] = omega arith
 skip-shorter l (x ∷ s) = go (ltb l (x .end)) (skip-shorter l s)
@@ -79,7 +79,7 @@ fine-peek {n} = record { good = go }
     go [] h = tt
     go (x ∷ s) h = h
 
-good-more : {A : Type 0} {b c : ℕ} (o : Read A) → b ≤ c → Good b o → Good c o
+pub good-more : {A : Type 0} {b c : ℕ} (o : Read A) → b ≤ c → Good b o → Good c o
 good-more (done a r) h g = omega arith
 good-more (failed e) h g = g
 
@@ -125,7 +125,7 @@ fine-first {A} {n} {b} {f} g = record { good = go }
     go (x ∷ s) h = g x .good s (omega arith)
 
 -- the next span below the limit, or the end of the parts
-abbrev parts : {A : Type 0} → Reader A → (Span → Reader A) → Option Span → Reader A
+abbrev pub parts : {A : Type 0} → Reader A → (Span → Reader A) → Option Span → Reader A
 parts m f o = elim o [ none ↦ m | some s ↦ f s ]
 
 fine-step : {A : Type 0} {n b : ℕ} (l : ℕ) {m : Reader A} {f : Span → Reader A} → Fine (suc n) b m → ((s : Span) → Fine n b (f s))

@@ -19,6 +19,7 @@ use Rattle.expression.specs.Read.{Fault, invalidLiteral, overLimit, notAllowed,
 use Rattle.expression.specs.Readers.{isName, readTilde, literalText, readOwnSpan, readPath, readLiteral, readSecond, readBlockParam, valueWith, partWith, readNameBy, readSubexpressionBy, readParamBy, readExpressionBy, readPartsBy, enough, readExpression}
 use Rattle.expression.specs.Answers.{callOr}
 use Rattle.expression.specs.declared.parameter.Subexpression.{Subexpression}
+use Rattle.expression.proofs.Fuel.{skip-shorter, parts}
 use Rattle.listing.specs.Quoted.{decimal, quoted, escaped}
 use Rattle.listing.specs.Form.{Word, quote, openForm, writeField, writeFields, writeHead, nil, cons, writeForm, writeForms}
 use Rattle.listing.specs.Listing.{segmentForm, segmentForms, pathForm, paramForm, callForms, paramForms, keyForms, blockParamForms}
@@ -276,17 +277,8 @@ module _ (text : Bytes) (short : length text ≤ 16384) where
           pick true = omega arith
           pick false = omega arith
 
-  skip-short : (l : ℕ) (s : List Span) → length (skipTo l s) ≤ length s
-  unfolding skipTo
-  skip-short l [] = omega arith
-  skip-short l (x ∷ s) = go (ltb l (x .end)) (skip-short l s)
-    where
-      go : (t : Bool) → length (skipTo l s) ≤ length s → length (if t (x ∷ s) (skipTo l s)) ≤ suc (length s)
-      go true h = omega arith
-      go false h = omega arith
-
   fits-skipping : {A : Type 0} {w : A → ℕ} {j k : ℕ} (l : ℕ) (a : A) → w a + j ≤ k → Fits w j k (skipping l a)
-  fits-skipping l a g = record { within = λ r h. let i = skip-short l r in omega arith }
+  fits-skipping l a g = record { within = λ r h. let i = skip-shorter l r in omega arith }
 
   fits-own : {j : ℕ} → Fits (λ s. 100000) j j readOwnSpan
   unfolding readOwnSpan
@@ -379,10 +371,6 @@ module _ (text : Bytes) (short : length text ≤ 16384) where
       (fits-then (fits-block-param (s .end)) (λ b h. fits-pure {a = block b} (omega arith)))
       (fits-if (isTag 35 s) (fits-pure {a = rightTilde} (omega arith))
       (fits-pure {a = skipped} (omega arith)))))
-
-  -- the next span below the limit, or the end of the parts
-  abbrev parts : {A : Type 0} → Reader A → (Span → Reader A) → Option Span → Reader A
-  parts m f o = elim o [ none ↦ m | some s ↦ f s ]
 
   fits-step : {A : Type 0} {w : A → ℕ} {j : ℕ} (l : ℕ) {m : Reader A} {f : Span → Reader A} → Fits w j j m
       → ((s : Span) → 100000 ≤ j → Fits w (j - 100000) j (f s))

@@ -8,15 +8,11 @@ use lib.ListN.{length}
 use Rattle.support.specs.Bytes.{Bytes}
 use Rattle.json_path.specs.Span.{Span}
 use Rattle.expression.specs.Expression.{Expression}
-use Rattle.expression.specs.Read.{exhausted, Read, done, failed}
+use Rattle.expression.specs.Read.{exhausted, done, failed}
 use Rattle.expression.specs.Readers.{maxSubexpressions, readName}
-use Rattle.expression.proofs.Fuel.{Good, Fine, fine-then, fine-pure, fine-tilde, name-good, expression-good}
+use Rattle.expression.proofs.Fuel.{Good, Fine, good-more, fine-then, fine-pure, fine-tilde, name-good, expression-good}
 use Rattle.template.specs.Kind.{Tag, blockStart, invertTag, invertChainTag, expression, htmlExpression, decoratorExpression, partialExpression, blockEnd}
 use Rattle.template.specs.TagExpression.{readOwn, readChain, readTag}
-
-good-more : {A : Type 0} {b c : ℕ} (o : Read A) → b ≤ c → Good b o → Good c o
-good-more (done a r) h g = omega arith
-good-more (failed e) h g = g
 
 module _ (text : Bytes) where
   fine-name : (n : ℕ) → Fine n n (readName text maxSubexpressions)
