@@ -1,30 +1,16 @@
 -- The last text's trims: trimming nothing changes nothing, and blanks are no longer there behind a full trim.
-use Prim.Native.Nat.{_-_, _≤_}
-use native.Mathlib.Omega.{arith}
 use mathlib.Core.Path.{_≡_, refl, sym, ap, _∙_}
-use mathlib.Core.List.{[], _∷_, reverse}
+use mathlib.Core.List.{[], _∷_}
 use mathlib.Core.Bool.{Bool, true, false}
-use lib.ListN.{length, length-take}
-use lib.Seq.{take-all}
 use Rattle.support.specs.Bytes.{Bytes, if}
-use Rattle.support.specs.Leading.{leading}
-use Rattle.support.specs.WhiteSpace.{whiteLengthBack, trimEnd}
-use Rattle.support.specs.TextRules.{blankLength, trimEndBlanks}
-use Rattle.support.proofs.TrimLaws.{end-part, end-blanks-part, end-twice, blanks-then-end}
+use Rattle.support.specs.WhiteSpace.{trimEnd}
+use Rattle.support.specs.TextRules.{trimEndBlanks}
+use Rattle.support.proofs.TrimLaws.{end-then-blanks}
 use Rattle.listing.specs.Tree as T
 use Rattle.listing.specs.Reading.{item, block, wrap}
 use Rattle.template.specs.State.{Level, level, trimItem, trimElem, trimLast}
 use Rattle.template.specs.Element.{backTrim}
 use Rattle.template.specs.Visiting.{trimOf}
-
-pub blanks-of-trimmed : (t : Bytes) → trimEndBlanks (trimEnd t) ≡ trimEnd t
-blanks-of-trimmed t =
-    let u = trimEnd t in
-    let b = trimEndBlanks u in
-    let n = length u - leading blankLength (reverse u) in
-    let e : trimEnd b ≡ u = blanks-then-end u ∙ end-twice t in
-    let f : length u ≤ length b = omega (arith, ap length e, ap length (end-part b), length-take (length b - leading whiteLengthBack (reverse b)) b) in
-    end-blanks-part u ∙ take-all n u (omega (arith, ap length (end-blanks-part u), length-take n u))
 
 trim-item-as : (f g : Bytes → Bytes) → ((t : Bytes) → f t ≡ g t) → (x : T.Item) → trimItem f x ≡ trimItem g x
 unfolding trimItem
@@ -63,7 +49,7 @@ trim-kept (level o (wrap p w b ∷ es)) = refl
 trim-both : (l : Level) → trimLast trimEndBlanks (trimLast trimEnd l) ≡ trimLast trimEnd l
 unfolding trimLast trimElem
 trim-both (level o []) = refl
-trim-both (level o (item p x ∷ es)) = ap (λ y. level o (item p y ∷ es)) (trim-item-twice trimEndBlanks trimEnd x ∙ trim-item-as (λ t. trimEndBlanks (trimEnd t)) trimEnd blanks-of-trimmed x)
+trim-both (level o (item p x ∷ es)) = ap (λ y. level o (item p y ∷ es)) (trim-item-twice trimEndBlanks trimEnd x ∙ trim-item-as (λ t. trimEndBlanks (trimEnd t)) trimEnd end-then-blanks x)
 trim-both (level o (block p h b bs e ∷ es)) = refl
 trim-both (level o (wrap p w b ∷ es)) = refl
 

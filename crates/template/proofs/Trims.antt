@@ -1,26 +1,21 @@
 -- An element with its end trimmed denotes the trimmed element: one trim of a text's end after another is the greater of the two, and
 -- what is no text stays. Assumes nothing.
-use Prim.Native.Nat.{ℕ, _+_, _-_, _<_, _≤_}
+use Prim.Native.Nat.{ℕ, _+_}
 use native.Mathlib.Omega.{arith}
 use mathlib.Core.Path.{_≡_, refl, ap, sym, subst, _∙_}
-use mathlib.Core.List.{List, [], _∷_, reverse}
+use mathlib.Core.List.{List}
 use mathlib.Core.Option.{Option, some}
-use lib.ListN.{length, take}
-use lib.Seq.{length-take-le, take-length}
 use Rattle.support.specs.Bytes.{Bytes}
-use Rattle.support.specs.Leading.{leading}
-use Rattle.support.specs.WhiteSpace.{trimEnd, whiteLengthBack}
-use Rattle.support.specs.TextRules.{trimEndBlanks, blankLength}
 use Rattle.support.specs.Position.{Place}
-use Rattle.support.proofs.TrimLaws.{end-blanks-part, end-part, end-twice, end-blanks-twice, blanks-then-end}
-use Rattle.listing.specs.Tree.{Item, Wrap, Head}
+use Rattle.support.proofs.TrimLaws.{end-twice, end-blanks-twice, blanks-then-end, end-then-blanks}
+use Rattle.listing.specs.Tree.{Item}
 use Rattle.listing.specs.Tree as T
 use Rattle.listing.specs.Reading.{Elem, item, block, wrap}
 use Rattle.listing.specs.Nesting.{nestElem}
 use Rattle.template.specs.State.{trimItem, trimElem}
 use Rattle.template.specs.Element.{backTrim, rawMeans, itemMeans, Role, leaf, helper, wrapper, roleOf, Sound}
-use Rattle.template.specs.Store.{elementAt, Is, Leaf, Helper, Wrapper, Node}
-use Rattle.template.specs.Links.{setElement, moreOf, trimmedRaw, trimmed, trimEndOf}
+use Rattle.template.specs.Store.{elementAt, Leaf, Node}
+use Rattle.template.specs.Links.{setElement, moreOf, trimmed, trimEndOf}
 use Rattle.template.specs.declared.element.Back.{Back}
 use Rattle.template.specs.declared.element.Back.the-variants as Back
 use Rattle.template.specs.declared.element.RawString.{RawString}
@@ -29,20 +24,6 @@ use Rattle.template.specs.declared.element.TemplateElement.the-variants 
 use Rattle.template.specs.declared.element.Element.{Element}
 use Rattle.template.proofs.Store.{Same, Alike, alike, move-node}
 
--- a text without White_Space at its end has no blanks there
-end-no-blanks : (t : Bytes) → trimEndBlanks (trimEnd t) ≡ trimEnd t
-end-no-blanks t =
-    let s = trimEnd t in
-    let k = leading blankLength (reverse s) in
-    let u = trimEndBlanks s in
-    let j = leading whiteLengthBack (reverse u) in
-    let p : u ≡ take (length s - k) s = end-blanks-part s in
-    let q : s ≡ take (length u - j) u = sym (end-twice t) ∙ sym (blanks-then-end s) ∙ end-part u in
-    let a : length u ≡ length s - k = ap length p ∙ length-take-le (length s - k) s (omega arith) in
-    let b : length s ≡ length u - j = ap length q ∙ length-take-le (length u - j) u (omega arith) in
-    let n : length s - k ≡ length s = omega (arith, a, b) in
-    p ∙ ap (λ i. take i s) n ∙ take-length s
-
 pub trim-more : (b c : Back) (t : Bytes) → backTrim (moreOf b c) t ≡ backTrim c (backTrim b t)
 trim-more b Back.Kept t = refl
 trim-more Back.Kept Back.White t = refl
@@ -50,7 +31,7 @@ trim-more Back.Blanks Back.White t = sym (blanks-then-end t)
 trim-more Back.White Back.White t = sym (end-twice t)
 trim-more Back.Kept Back.Blanks t = refl
 trim-more Back.Blanks Back.Blanks t = sym (end-blanks-twice t)
-trim-more Back.White Back.Blanks t = sym (end-no-blanks t)
+trim-more Back.White Back.Blanks t = sym (end-then-blanks t)
 
 -- nothing is trimmed
 pub trim-kept : (e : Element) → trimEndOf e Back.Kept ≡ e
