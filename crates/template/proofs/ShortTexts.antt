@@ -9,6 +9,7 @@ use Rattle.support.specs.Bytes.{Bytes, ascii, if, part}
 use Rattle.support.specs.Leading.{leading, dropFront, dropBack}
 use Rattle.support.specs.WhiteSpace.{trimStart, trimEnd}
 use Rattle.support.specs.TextRules.{trimStartBlanks, trimEndBlanks, trailingBlanks, stripFirstNewline, matchLength, trimStartMatches, trimEndMatches, commentCompactText, commentText}
+use Rattle.support.proofs.TextLaws.{end-blanks-le}
 use Rattle.json_path.specs.Span.{Span, spanCount, decode, allFrom, isEscape, withoutEscapes, leadingEscapes, spansFrom, escapesFrom}
 use Rattle.literal.specs.Requote.{unescapeSingle, escapeDouble, requoted}
 use Rattle.listing.specs.Quoted.{digits, decimal, escape, escaped, quoted}
@@ -43,10 +44,6 @@ back-short size s = take-short (length s - leading size (reverse s)) s
 start-blanks-short : (s : Bytes) → length (trimStartBlanks s) ≤ length s
 unfolding trimStartBlanks
 start-blanks-short s = front-short _ s
-
-end-blanks-short : (s : Bytes) → length (trimEndBlanks s) ≤ length s
-unfolding trimEndBlanks
-end-blanks-short s = back-short _ s
 
 start-short : (s : Bytes) → length (trimStart s) ≤ length s
 unfolding trimStart
@@ -160,7 +157,7 @@ front-trim-short Front.White t = start-short t
 
 back-trim-short : (b : Back) (t : Bytes) → length (backTrim b t) ≤ length t
 back-trim-short Back.Kept t = omega arith
-back-trim-short Back.Blanks t = end-blanks-short t
+back-trim-short Back.Blanks t = end-blanks-le t
 back-trim-short Back.White t = end-short t
 
 pub raw-short : (text : Bytes) (words : List ℕ) (r : RawString) → length text ≤ 16384 → spanCount words ≤ 4096
