@@ -6,6 +6,7 @@ use mathlib.Core.List.{List, [], _∷_, _++_, append-nil}
 use mathlib.Core.Bool.{Bool}
 use lib.ListN.{length}
 use Rattle.support.specs.Bytes.{Bytes, if, part, isEmpty}
+use Rattle.support.proofs.ByteLaws.{no-bytes}
 use Rattle.template.specs.Raw.{cutMeans, Piece, CutGood, CutIs, pieceEnd, pieceStart, fromStart, toEnd, withoutFirst, withoutLast, startTrim, endTrim}
 use Rattle.template.specs.declared.raw.Cut.{Cut}
 use Rattle.template.proofs.PieceTrims.{part-length, part-empty, start-left, end-left, start-join-by, end-join-by, start-trimmed, start-piece, end-trimmed, end-piece}
@@ -18,10 +19,6 @@ empty-if (b ∷ s) x y e = absurd (omega arith)
 some-if : {A : Type 0} (s : Bytes) (x y : A) → 0 < length s → if (isEmpty s) x y ≡ y
 some-if [] x y h = absurd (omega arith)
 some-if (b ∷ s) x y h = refl
-
-no-bytes : (s : Bytes) → length s ≡ 0 → s ≡ []
-no-bytes [] e = refl
-no-bytes (b ∷ s) e = absurd (omega arith)
 
 -- ---- the front
 

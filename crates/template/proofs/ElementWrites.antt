@@ -1,6 +1,5 @@
 -- The bytes of an element, piece by piece as the writers store them. Assumes nothing.
 use Prim.Native.Nat.{ℕ, _≤_}
-use native.Mathlib.Omega.{arith}
 use mathlib.Core.Path.{_≡_, refl, sym, ap, subst, _∙_}
 use mathlib.Core.List.{List, [], _∷_, _++_, append-nil, append-assoc}
 use mathlib.Core.Bool.{Bool, true, false}
@@ -12,6 +11,7 @@ use Rattle.support.specs.Bytes.{Bytes, ascii, part}
 use Rattle.support.specs.TextRules.{trailingBlanks, commentCompactText, commentText}
 use Rattle.support.specs.Position.{Place}
 use Rattle.support.specs.declared.position.Place as code
+use Rattle.support.proofs.ByteLaws.{no-bytes}
 use Rattle.listing.specs.Quoted.{digits, decimal, quoted}
 use Rattle.listing.specs.Form.{Word, Field, spell, writeField, writeFields, writeHead, nil, line, writeForm, writeForms}
 use Rattle.listing.specs.Tree.{decorBlock, partialBlock}
@@ -32,10 +32,6 @@ use Rattle.template.specs.declared.element.TemplateElement.the-variants 
 use Rattle.template.specs.declared.element.Element.{Element}
 
 -- ---- fields
-
-pub empty : (t : Bytes) → length t ≡ 0 → t ≡ []
-empty [] h = refl
-empty (c ∷ t) h = absurd (omega arith)
 
 -- the indent, from its blanks
 indented : (text : Bytes) (d : DecoratorTemplate) {s t : Bytes} → d .indent ≡ true → s ≡ part text 0 (d .start) → t ≡ trailingBlanks s
@@ -77,7 +73,7 @@ module _ {l m : Bytes} {at r : ℕ} where
     module _ {s t : Bytes} (e : d .indent ≡ true) (f : s ≡ part text 0 (d .start)) (g : t ≡ trailingBlanks s) where
       pub indent-none : length t ≡ 0 → Written (ascii " -") l at m r → Written (ascii " " ++ writeField (indentField (indentMeans text [] d))) l at m r
       unfolding writeField
-      indent-none h w = rw (indented text d e f g, empty t h) w
+      indent-none h w = rw (indented text d e f g, no-bytes t h) w
 
       pub indent-some : (length t ≡ 0 → ⊥) → Written (ascii " " ++ quoted t) l at m r
           → Written (ascii " " ++ writeField (indentField (indentMeans text [] d))) l at m r

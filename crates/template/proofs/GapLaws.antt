@@ -3,7 +3,7 @@ use Prim.Native.Nat.{ℕ, _+_, _-_, _≤_}
 use native.Mathlib.Omega.{arith}
 use mathlib.Core.Path.{_≡_, refl, sym, ap, subst, _∙_}
 use mathlib.Core.List.{List}
-use mathlib.Core.Bool.{Bool, true, false, _&&_, not}
+use mathlib.Core.Bool.{Bool, true, false, _&&_, not, and-false}
 use mathlib.Core.Option.{Option, some}
 use lib.ListN.{take}
 use borrow.Author.Tests.{ne-eqb}
@@ -76,10 +76,6 @@ module _ {a b : S.Stage} {c d : Level} {e f : List Level} {g h : Option ℕ} {i 
 
 -- ---- the gap
 
-and-no : (b : Bool) → (b && false) ≡ false
-and-no true = refl
-and-no false = refl
-
 pub and-yes : (b : Bool) → (b && true) ≡ b
 and-yes true = refl
 and-yes false = refl
@@ -113,7 +109,7 @@ module _ (text : Bytes) (words : List ℕ) (s : Span) {m : Marks} {st : State} (
         → stageMeans g ≡ if b (afterGap (stageMeans (m .stage))) (stageMeans (m .stage)) → l ≡ (m .«trim_line_required» && not b)
         → takeGap text s st ≡ state (stageMeans g) (gapEffect text words b e st .top) (st .outer) (st .endPos) (st .omitProWs) l
     unfolding takeGap
-    taken g true k i j = rw (← k) (state-as (ap afterGap (sym (h .stage)) ∙ sym i) (ap (λ x. addTo x (st .top)) (sym gap-leaf)) refl refl refl (sym (j ∙ and-no (m .«trim_line_required»))))
+    taken g true k i j = rw (← k) (state-as (ap afterGap (sym (h .stage)) ∙ sym i) (ap (λ x. addTo x (st .top)) (sym gap-leaf)) refl refl refl (sym (j ∙ and-false (m .«trim_line_required»))))
     taken g false k i j = rw (← k) (state-as (sym (h .stage) ∙ sym i) refl refl refl refl (sym (j ∙ and-yes (m .«trim_line_required») ∙ h .trimLine)))
 
 pub gap-outer : (text : Bytes) (words : List ℕ) (b : Bool) (e : Element) (st : State) → gapEffect text words b e st .outer ≡ st .outer

@@ -9,12 +9,12 @@ use lib.ListN.{length, drop}
 use lib.Seq.{sets, sets-eq, length-sets}
 use borrow.Author.Tests.{lt-ltb, le-ltb}
 use Rattle.support.specs.Bytes.{Bytes}
+use Rattle.support.proofs.ByteLaws.{no-bytes}
 use Rattle.listing.specs.Written.{largest, Written}
 use Rattle.template.specs.Result.{refused, accepted}
 use Rattle.template.specs.Compile.{fit}
 use Rattle.template.specs.Answers.{AnswerIs}
 use Rattle.template.specs.declared.compile.Answer.the-variants.{Listed, Refused}
-use Rattle.template.proofs.ElementWrites.{empty}
 
 module _ {w m : Bytes} {n : ℕ} (short : length w ≤ largest) (measured : Written w [] 0 m n) where
   measure : n ≡ length w
@@ -22,7 +22,7 @@ module _ {w m : Bytes} {n : ℕ} (short : length w ≤ largest) (measured : Writ
 
   -- the empty slice stays empty
   unwritten : m ≡ []
-  unwritten = empty m (ap length (measured .stored) ∙ length-sets [] 0 w)
+  unwritten = no-bytes m (ap length (measured .stored) ∙ length-sets [] 0 w)
 
   pub too-long : (l : Bytes) → length (m ++ l) < n → AnswerIs (fit (length l) w) l (m ++ l) (Refused 14 n)
   unfolding fit

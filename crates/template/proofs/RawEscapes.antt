@@ -68,11 +68,11 @@ module _ {words : List ℕ} {limit from k : ℕ} (g : Counting words limit from 
 
 -- ---- their pieces
 
-or-false-left : (a b : Bool) → a || b ≡ false → a ≡ false
+pub or-false-left : (a b : Bool) → a || b ≡ false → a ≡ false
 or-false-left true b e = e
 or-false-left false b e = refl
 
-or-false-right : (a b : Bool) → a || b ≡ false → b ≡ false
+pub or-false-right : (a b : Bool) → a || b ≡ false → b ≡ false
 or-false-right true b e = absurd (false≢true (sym e))
 or-false-right false b e = e
 

@@ -3,7 +3,7 @@ use Prim.Native.Nat.{ℕ, zero, suc, _+_, _≤_, _<_}
 use native.Mathlib.Omega.{arith}
 use mathlib.Core.Path.{_≡_, refl, sym, ap, subst, _∙_}
 use mathlib.Core.List.{List, [], _∷_}
-use mathlib.Core.Bool.{Bool, true, false, _||_, not}
+use mathlib.Core.Bool.{Bool, true, false, not}
 use mathlib.Core.Option.{none}
 use lib.Dec.{ltb}
 use lib.ListN.{length}
@@ -43,28 +43,21 @@ use Rattle.template.specs.declared.visit.Visit.the-variants as Vis
 use Rattle.template.proofs.TagKinds.{some-tag}
 use Rattle.template.proofs.WalkEquations.{walk-next, walk-stop}
 use Rattle.template.proofs.VisitLaws.{kind-refused}
+use Rattle.template.proofs.RawEscapes.{or-false-left, or-false-right}
 
 -- ---- 5 holds of no span
-
-or-left : (a b : Bool) → (a || b) ≡ false → a ≡ false
-or-left true b e = e
-or-left false b e = refl
-
-or-right : (a b : Bool) → (a || b) ≡ false → b ≡ false
-or-right true b e = let z : _≡_ {A = ℕ} 0 1 = cc in absurd (omega arith)
-or-right false b e = e
 
 fits-of : (text : Bytes) (s : Span) → badSpan text s ≡ false → SpanFits text s
 unfolding badSpan
 fits-of text s e =
-    let a = or-right (ltb 40 (s .tag)) _ e in
-    let b = or-right (ltb (s .end) (s .start)) _ a in
-    let c = or-right (ltb (length text) (s .end)) _ b in
+    let a = or-false-right (ltb 40 (s .tag)) _ e in
+    let b = or-false-right (ltb (s .end) (s .start)) _ a in
+    let c = or-false-right (ltb (length text) (s .end)) _ b in
     record {
-      order = ltb-false (s .end) (s .start) (or-left (ltb (s .end) (s .start)) _ a);
-      inside = ltb-false (length text) (s .end) (or-left (ltb (length text) (s .end)) _ b);
-      starts = not-false (isCharBoundary text (s .start)) (or-left (not (isCharBoundary text (s .start))) _ c);
-      ends = not-false (isCharBoundary text (s .end)) (or-right (not (isCharBoundary text (s .start))) _ c);
+      order = ltb-false (s .end) (s .start) (or-false-left (ltb (s .end) (s .start)) _ a);
+      inside = ltb-false (length text) (s .end) (or-false-left (ltb (length text) (s .end)) _ b);
+      starts = not-false (isCharBoundary text (s .start)) (or-false-left (not (isCharBoundary text (s .start))) _ c);
+      ends = not-false (isCharBoundary text (s .end)) (or-false-right (not (isCharBoundary text (s .start))) _ c);
     }
 
 -- the next one is not bad, and none is behind it

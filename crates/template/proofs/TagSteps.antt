@@ -12,6 +12,7 @@ use Rattle.support.specs.WhiteSpace.{trimEnd}
 use Rattle.support.specs.TextRules.{trimEndBlanks, trailingBlanks}
 use Rattle.support.specs.Position.{placeAt, placeOf}
 use Rattle.support.specs.declared.position.Place as code
+use Rattle.support.proofs.Table.{and-left, and-right}
 use Rattle.json_path.specs.Span.{Span}
 use Rattle.expression.specs.Expression.{Expression, asName, nameOf}
 use Rattle.expression.specs.Answers.{paramMeans}
@@ -89,14 +90,6 @@ module _ (text : Bytes) (prevent isPartial : Bool) (s : Span) where
       ∙ state-as refl (trims (x .omitPreWs) (cutOf k (standalone text isPartial s) prevent) t) refl refl refl refl
 
 -- ---- acts
-
-and-left : (a b : Bool) → (a && b) ≡ true → a ≡ true
-and-left true b e = refl
-and-left false b e = e
-
-and-right : (a b : Bool) → (a && b) ≡ true → b ≡ true
-and-right true b e = e
-and-right false b e = let z : _≡_ {A = ℕ} 0 1 = cc in absurd (omega arith)
 
 trim-owner : (f : Bytes → Bytes) (l : Level) → ownerOf (trimLast f l) ≡ ownerOf l
 unfolding trimLast
