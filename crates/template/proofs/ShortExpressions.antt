@@ -1,6 +1,6 @@
--- How long the forms of an expression are: each span that a reader takes pays for at most 100,000 bytes. A reader fits if what it reads and
--- the spans that it leaves are paid for by the spans that it was given; put together from others it fits if they do; then by induction on
--- the bound on the steps. Assumes nothing.
+-- How long the forms of an expression are: at most 100,000 bytes for each span that a reader takes. A reader fits if the bytes of what it
+-- reads are at most 100,000 for each span that it was given and does not leave; put together from others it fits if they do; then by
+-- induction on the bound on the steps. Assumes nothing.
 use Prim.Native.Nat.{ℕ, zero, suc, _+_, _-_, _*_, _≤_}
 use native.Mathlib.Omega.{arith}
 use mathlib.Core.Path.{_≡_, refl, ap}
@@ -251,7 +251,7 @@ module _ (text : Bytes) (short : length text ≤ 16384) where
   fits-more : {A : Type 0} {w : A → ℕ} {i j k : ℕ} {m : Reader A} → j ≤ k → Fits w i j m → Fits w i k m
   fits-more {w = w} {j = j} {k = k} {m = m} h x = record { within = λ s l. within-more w j k (m s) h (x .within s l) }
 
-  -- a span that is taken pays
+  -- one span is taken: room for 100,000 bytes
   fits-next : {j : ℕ} → Fits (λ s. 100000) j j next
   fits-next {j} = record { within = go }
     where

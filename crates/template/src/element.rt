@@ -1,8 +1,6 @@
 // What the store holds: elements, as in the crate, with links as numbers. Link 0 is none.
 use expression::parameter::AsName;
 use expression::parameter::Parameter;
-use expression::parameter::Subexpression;
-use json_path::path::Name;
 use support::position::Place;
 ghost use mathlib.Core.Path.{_≡_};
 ghost use Rattle.template.specs.Element.{newElement};

@@ -28,7 +28,7 @@ ghost use Rattle.listing.specs.Form.{writeField, writeForm, writeForms};
 ghost use Rattle.listing.specs.Tree as Tree;
 ghost use Rattle.listing.specs.Tree.{Body};
 ghost use Rattle.listing.specs.Listing.{bit, placeField, indentField, itemForm, write};
-ghost use Rattle.listing.specs.Children.{decoratorChildren, helperChildren};
+ghost use Rattle.listing.specs.Children.{helperChildren};
 ghost use Rattle.listing.specs.Written.{Written};
 ghost use Rattle.template.specs.Compile.{fit};
 ghost use Rattle.template.specs.Answers.{AnswerIs};

@@ -17,7 +17,7 @@ use support::bytes::same_bytes;
 use support::utf8::is_char_boundary;
 use support::utf8::valid_up_to;
 ghost use mathlib.Core.Path.{_≡_};
-ghost use Prim.Native.Nat.{_≤_, _<_};
+ghost use Prim.Native.Nat.{_<_};
 ghost use Rattle.json_path.specs.Span.{escapesFrom};
 ghost use Rattle.expression.specs.Read.{faultNumber};
 ghost use Rattle.expression.specs.Answers.{faultMeans, asNameMeans};
@@ -40,6 +40,7 @@ pub enum Checked {
 }
 
 impl Marks {
+    // How many bytes a text may have.
     pub const TEXT: usize = 16384;
 }
 

@@ -1,8 +1,6 @@
 // What a turn of the walk does to the store, as values: the element that is made, the owner of the
 // open body, the frames, and what joins the body. What does not change is stored again as it was.
-use crate::element::Back;
 use crate::element::Element;
-use crate::element::TemplateElement;
 use crate::frame::Frame;
 use crate::frame::Opened;
 use crate::visit::Act;
