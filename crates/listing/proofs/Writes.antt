@@ -19,7 +19,8 @@ sets-append : (l : Bytes) (i : ℕ) (x y : Bytes) → sets (sets l i x) (i + len
 sets-append l i [] y = rw (add-zero i)
 sets-append l i (b ∷ x) y = ap (λ n. sets (sets (set l i b) (suc i) x) n y) (add-suc i (length x) ∙ sym (suc-add i (length x))) ∙ sets-append (set l i b) (suc i) x y
 
-sets-out : (l : Bytes) (i : ℕ) (x : Bytes) → length l ≤ i → sets l i x ≡ l
+-- at the end or behind it nothing is stored
+pub sets-out : (l : Bytes) (i : ℕ) (x : Bytes) → length l ≤ i → sets l i x ≡ l
 sets-out l i [] h = refl
 sets-out l i (b ∷ x) h = ap (λ k. sets k (suc i) x) (set-out l i b h) ∙ sets-out l (suc i) x (omega arith)
 

@@ -4,7 +4,7 @@ use Prim.Native.Nat.{ℕ, suc, _+_, _-_, _<_, _≤_}
 use native.Mathlib.Omega.{arith}
 use mathlib.Core.Path.{_≡_, refl, ap, sym, subst, _∙_}
 use mathlib.Core.Bool.{Bool, true, false}
-use mathlib.Core.Logic.{_⊎_, inl, inr}
+use mathlib.Core.Logic.{inl, inr}
 use mathlib.Core.List.{List, [], _∷_}
 use mathlib.Core.Option.{Option, none, some}
 use lib.ListN.{length}
@@ -14,17 +14,17 @@ use Rattle.listing.specs.Tree.{Wrap, Head}
 use Rattle.listing.specs.Tree as T
 use Rattle.listing.specs.Reading.{Elem, wrap, Body, noMore, noElse, else}
 use Rattle.listing.specs.Nesting.{nestElem, nestBody, nestElse}
-use Rattle.template.specs.State.{Branch, closed, Owner, helper, inElse, wrapper, Level, level, openOf, sumOpen, bodyOf, toBlock}
-use Rattle.template.specs.Store.{elementAt, Helper, Wrapper, Chain, Node, ElseAt}
+use Rattle.template.specs.State.{Branch, closed, Owner, helper, inElse, wrapper, Level, level, sumOpen, bodyOf, toBlock}
+use Rattle.template.specs.Store.{elementAt, Helper, Chain, Node, ElseAt}
 use Rattle.template.specs.Links.{setTemplate, setInverse}
 use Rattle.template.specs.Turn.{refChainHead, emptied, reverted}
 use Rattle.template.specs.declared.element.Element.{Element}
 use Rattle.template.specs.declared.frame.Frame.{Frame}
-use Rattle.template.proofs.Store.{Same, SameBut, Solo, frame, frame-else, helper-like, wrapper-like, ends-below}
-use Rattle.template.proofs.Nesting.{treeOf, nested, anyDone, close-nested}
-use Rattle.template.proofs.Levels.{linkTo, frameAt, kin-same, Shut, Gathered, gathered-low, owner-is, Lead, Outer, inner-low, frame-shut, frame-gathered, frame-inner, frame-outer}
-use Rattle.template.proofs.Fits.{SealedHelper, SealedWrapper, Sealed, Closing, Filling, Fits, frame-fits, fits-last}
-use Rattle.template.proofs.OpenSteps.{Still, Waits, Mid, skip-step, around, sealed-gathered, sealed-shut, sealed-around}
+use Rattle.template.proofs.Store.{Same, SameBut, Solo, frame, frame-else, helper-like, wrapper-like}
+use Rattle.template.proofs.Nesting.{treeOf, nested, close-nested}
+use Rattle.template.proofs.Levels.{linkTo, frameAt, kin-same, Shut, Gathered, gathered-low, owner-is, inner-low, frame-shut, frame-gathered, frame-inner, frame-outer}
+use Rattle.template.proofs.Fits.{Sealed, Closing, Filling, fits-last}
+use Rattle.template.proofs.OpenSteps.{Mid, skip-step, around, sealed-gathered, sealed-shut, sealed-around}
 
 module _ (text : Bytes) (words : List ℕ) (st st′ : List Element) (lv lv′ : List Frame) (x : Frame) (depth len count w₀ : ℕ) (pos : 1 ≤ len) (ew : w₀ ≡ refChainHead (x .block) (x .head))
     (agree : (i : ℕ) → i < depth → frameAt lv′ i ≡ frameAt lv i) where

@@ -2,9 +2,9 @@
 -- closes, which is in the state already. Assumes nothing.
 use Prim.Native.Nat.{ℕ, suc, _+_, _<_, _≤_}
 use native.Mathlib.Omega.{arith}
-use mathlib.Core.Path.{_≡_, refl, ap, sym, subst, _∙_}
+use mathlib.Core.Path.{_≡_, ap, _∙_}
 use mathlib.Core.Bool.{Bool, true, false}
-use mathlib.Core.Logic.{⊎-elim, _⊎_, inl, inr}
+use mathlib.Core.Logic.{_⊎_, inl, inr}
 use mathlib.Core.List.{List, [], _∷_}
 use mathlib.Core.Option.{some}
 use lib.ListN.{length}
@@ -21,7 +21,7 @@ use Rattle.template.specs.declared.element.Element.{Element}
 use Rattle.template.specs.declared.frame.Frame.{Frame}
 use Rattle.template.proofs.Store.{Same, frame-else, wrapper-like, ends-below}
 use Rattle.template.proofs.Nesting.{treeOf, nested}
-use Rattle.template.proofs.Levels.{linkTo, frameAt, Rooted, kin-same, Shut, Gathered, gathered-low, owner-is, Inner, Outer, lead-low, inner-low, frame-shut, frame-gathered, frame-inner, frame-outer}
+use Rattle.template.proofs.Levels.{linkTo, frameAt, Rooted, kin-same, Shut, Gathered, gathered-low, owner-is, Inner, Outer, inner-low, frame-shut, frame-gathered, frame-inner, frame-outer}
 
 module _ (text : Bytes) (words : List ℕ) where
   -- ---- a block that closes

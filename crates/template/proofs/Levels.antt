@@ -1,28 +1,26 @@
 -- What the open bodies stand for: the branches of a block that are gathered back to front, the open body behind them, and the bodies
 -- around it. All is told by elements before a number, and is the same in a store that agrees there. Assumes nothing.
-use Prim.Native.Nat.{ℕ, suc, _+_, _<_, _≤_}
+use Prim.Native.Nat.{ℕ, _+_, _<_, _≤_}
 use native.Mathlib.Omega.{arith}
-use mathlib.Core.Path.{_≡_, refl, ap, sym, subst, _∙_}
-use mathlib.Core.Bool.{Bool, true, false}
-use mathlib.Core.Logic.{⊎-elim, _⊎_, inl, inr}
+use mathlib.Core.Path.{_≡_, ap, sym, subst, _∙_}
+use mathlib.Core.Bool.{true, false}
 use mathlib.Core.List.{List, [], _∷_}
 use mathlib.Core.Option.{none, some}
 use lib.ListN.{length, getD}
 use borrow.Author.Tests.{ne-eqb}
 use Rattle.support.specs.Bytes.{Bytes}
 use Rattle.support.specs.Position.{Place}
-use Rattle.listing.specs.Tree.{Wrap, Head}
+use Rattle.listing.specs.Tree.{Head}
 use Rattle.listing.specs.Tree as T
-use Rattle.listing.specs.Reading.{Elem}
-use Rattle.listing.specs.Nesting.{nestElem, nestBody}
-use Rattle.template.specs.State.{Branch, closed, Owner, root, helper, inElse, wrapper, Level, level, ownerOf, openOf, sumOpen}
-use Rattle.template.specs.Store.{elementAt, Helper, Wrapper, Chain, ElseAt}
+use Rattle.listing.specs.Nesting.{nestBody}
+use Rattle.template.specs.State.{Branch, closed, Owner, root, helper, inElse, wrapper, Level, level, ownerOf}
+use Rattle.template.specs.Store.{elementAt, Helper, Wrapper, Chain}
 use Rattle.template.specs.Visit.{OpenedIs}
 use Rattle.template.specs.Turn.{emptyFrame, refChainHead}
 use Rattle.template.specs.declared.element.Element.{Element}
 use Rattle.template.specs.declared.frame.Frame.{Frame}
-use Rattle.template.proofs.Store.{Same, frame, frame-else, helper-like, wrapper-like}
-use Rattle.template.proofs.Nesting.{treeOf, nested, anyDone}
+use Rattle.template.proofs.Store.{Same, frame, helper-like, wrapper-like}
+use Rattle.template.proofs.Nesting.{treeOf, anyDone}
 
 -- the link to the newest else-if node, which stands at w where there is one
 abbrev pub linkTo : List Branch → ℕ → ℕ

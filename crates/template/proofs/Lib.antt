@@ -8,6 +8,7 @@ pub mod CheckReasons
 pub mod Answers
 pub mod Numbers
 pub mod OneListing
+pub mod Calls
 pub mod ProvedSet
 pub mod OneFault
 pub mod PieceTrims
@@ -18,6 +19,7 @@ pub mod RawEscapes
 pub mod CutWrites
 pub mod ReasonLaws
 pub mod CheckLaws
+pub mod Compiles
 pub mod EscapeLaws
 pub mod TagLaws
 pub mod Store
@@ -27,6 +29,7 @@ pub mod Fits
 pub mod OpenSteps
 pub mod CloseSteps
 pub mod Trims
+pub mod ChainHeads
 pub mod Turns
 pub mod Ready
 pub mod ElementWrites
@@ -41,5 +44,12 @@ pub mod SpanVisits
 pub mod SpanCases
 pub mod ShortTexts
 pub mod ShortExpressions
-pub mod ShortListing
 pub mod ListAnswers
+pub mod Names
+pub mod Loop
+pub mod Finishing
+pub mod WalkEnds
+pub mod WalkStages
+pub mod LineLaws
+pub mod Passes
+pub mod ShortListing

@@ -19,7 +19,7 @@ use Rattle.listing.proofs.Writes.{written-then, written-length}
 use Rattle.listing.proofs.ChildWrites.{call-join, block-join}
 use Rattle.template.specs.Element.{roleOf, Sound}
 use Rattle.template.specs.Store.{elementAt, Leaf, Helper, Wrapper, Chain, ElseAt, Holds, Stored}
-use Rattle.template.specs.Opening.{blockOpening, wrapOpening, openingBy, opening, hasBody, waits}
+use Rattle.template.specs.Opening.{blockOpening, wrapOpening, openingBy, opening, hasBody, waits, bodyEnd, deeper, linkInside, linkBehind}
 use Rattle.template.specs.declared.element.Element.{Element}
 use Rattle.template.specs.declared.list.Waiting as code
 use Rattle.template.proofs.BodyAt.{elseOf, bodyAt, chain-read, else-read, holds-one}
@@ -77,7 +77,7 @@ tail [] = ascii "]\n"
 tail (context m hi e r ∷ cs) = ascii "]\n" ++ (writeForms (elseForms e) ++ (ascii "]\n" ++ (bodyBytes r ++ tail cs)))
 
 -- the first line, and the rest
-pub listed : (b : Body) {l m n : Bytes} {at p q : ℕ} → length l ≤ largest → Written (ascii "[template\n") l at m p
+listed : (b : Body) {l m n : Bytes} {at p q : ℕ} → length l ≤ largest → Written (ascii "[template\n") l at m p
     → Written (bodyBytes b ++ ascii "]\n") m p n q
     → Written (write b) l at n q
 unfolding write writeForm writeHead writeFields
@@ -163,6 +163,16 @@ module _ (text : Bytes) (words : List ℕ) (st : List Element) where
   pub leftSize : List code.Waiting → ℕ → ℕ → ℕ
   leftSize ws at depth = bodySize (bodyAt text words 8193 st at) + waitingSize ws depth
 
+  -- the pass that is still to come, while the first one measures
+  pub again : Bool → ℕ → ℕ
+  again false first = 1 + bodySize (bodyAt text words 8193 st first)
+  again true first = 0
+
+  pub again-less : {measured : Bool} {depth : ℕ} (ws : List code.Waiting) (first at : ℕ) → measured ≡ false → depth ≡ 0
+      → again true first + leftSize ws first depth < again measured first + leftSize ws at depth
+  unfolding again leftSize waitingSize
+  again-less ws first at e d = rw (e, d) (omega arith)
+
   else-left : (i : Bool) (x : Element) (k m : ℕ) (e : Else) → 1 ≤ k → m ≤ 8193 → ElseLeft i x k m e
       → if i noElse (elseOf (x .inverted) (bodyAt text words 8193 st (x .inverse))) ≡ e
   else-left true x k m e h g s = sym s
@@ -186,7 +196,7 @@ module _ (text : Bytes) (words : List ℕ) (st : List Element) where
 
   -- ---- the state of the loop
 
-  -- bytes l and the position `start` before the first element, m and p now; the chain from `at` is what is left of the body that is being listed
+  -- bytes l and the position `start` before the listing, m and p now; the chain from `at` is what is left of the body that is being listed
   pub record Lister (first : ℕ) (l : Bytes) (start : ℕ) (m : Bytes) (ws : List code.Waiting) (p at depth : ℕ) : Type 0 where
     body : Body
     holds : Holds text words st first body
@@ -201,8 +211,8 @@ module _ (text : Bytes) (words : List ℕ) (st : List Element) where
     contexts : List Context
     stack : Stack ws hi contexts
     deep : length contexts ≡ depth
-    long : length ws ≡ 8193
-    whole : (k : Bytes) (r : ℕ) → Written (bodyBytes here ++ tail contexts) m p k r → Written (bodyBytes body ++ ascii "]\n") l start k r
+    pub long : length ws ≡ 8193
+    whole : (k : Bytes) (r : ℕ) → Written (bodyBytes here ++ tail contexts) m p k r → Written (write body) l start k r
     pub same : length m ≡ length l
     position : p ≤ largest
 
@@ -214,11 +224,12 @@ module _ (text : Bytes) (words : List ℕ) (st : List Element) where
       let b = ap (waitingSize ws) (sym (s .deep)) ∙ stack-size ws (s .hi) (s .contexts) (s .stack) in
       omega (arith, a, b)
 
-  -- before the first turn
-  pub begins : {first : ℕ} {l : Bytes} {p : ℕ} (ws : List code.Waiting) → length ws ≡ 8193 → p ≤ largest → Stored text words st first
-      → Lister first l p l ws p first 0
+  -- before the first turn, behind the first line
+  pub begins : {first : ℕ} {l m : Bytes} {start p : ℕ} (ws : List code.Waiting) → length ws ≡ 8193 → length l ≤ largest → Stored text words st first
+      → Written (ascii "[template\n") l start m p
+      → Lister first l start m ws p first 0
   unfolding tail
-  begins ws long h s = record {
+  begins ws long g s w = record {
     body = s .body;
     holds = s .holds;
     here = s .body;
@@ -233,9 +244,9 @@ module _ (text : Bytes) (words : List ℕ) (st : List Element) where
     stack = tt;
     deep = refl;
     long = long;
-    whole = λ k r v. v;
-    same = refl;
-    position = h;
+    whole = λ k r v. listed (s .body) g w v;
+    same = written-length w;
+    position = omega (arith, w .next);
   }
 
   pub block-node : {o : Option Place} {h : Head} {e : Element} {c : Bool} → Helper text words o h e → e .chain ≡ c → (b : Body) (x : Else)
@@ -264,12 +275,13 @@ module _ (text : Bytes) (words : List ℕ) (st : List Element) where
       → Turn first l start m ws p at depth size
   turned s h = record { state = s; less = omega (arith, left-size s, h) }
 
-  -- an entry that is told by an equation
-  pub entered : (ws : List code.Waiting) (i : ℕ) {first : ℕ} {l m : Bytes} {u v : code.Waiting} {start p at depth size : ℕ} → v ≡ u
+  -- an entry, a link and a depth that are told by equations
+  pub entered : (ws : List code.Waiting) (i : ℕ) {first : ℕ} {l m : Bytes} {u v : code.Waiting} {start p at at′ depth depth′ size : ℕ} → v ≡ u → at′ ≡ at → depth′ ≡ depth
       → Turn first l start m (set ws i u) p at depth size
-      → Turn first l start m (set ws i v) p at depth size
-  entered ws i {first} {l} {m} {start = start} {p = p} {at = at} {depth = depth} {size = size} e t =
-      subst (λ z. Turn first l start m (set ws i z) p at depth size) (sym e) t
+      → Turn first l start m (set ws i v) p at′ depth′ size
+  entered ws i {first} {l} {m} {u} {v} {start} {p} {at} {at′} {depth} {depth′} {size} e f g t =
+      subst (λ z. Turn first l start m (set ws i z) p at′ depth′ size) (sym e)
+      (subst (λ z. Turn first l start m (set ws i u) p z depth′ size) (sym f) (subst (λ z. Turn first l start m (set ws i u) p at z size) (sym g) t))
 
   pub leaf-bytes : {o : Option Place} {x : Item} {e : Element} → Leaf text words o x e → writeForm (itemForm (placeField o) x) ≡ opening text words e
   unfolding openingBy
@@ -310,18 +322,18 @@ module _ (text : Bytes) (words : List ℕ) (st : List Element) where
 
   module _ {first : ℕ} {l m : Bytes} {ws : List code.Waiting} {start p at depth : ℕ} (g : length l ≤ largest) (s : Lister first l start m ws p at depth) where
     -- the rest, from what was written and what is still to be
-    onward : {x y n k : Bytes} {q r : ℕ} → bodyBytes (s .here) ++ tail (s .contexts) ≡ x ++ y → Written x m p n q → Written y n q k r → Written (bodyBytes (s .body) ++ ascii "]\n") l start k r
+    onward : {x y n k : Bytes} {q r : ℕ} → bodyBytes (s .here) ++ tail (s .contexts) ≡ x ++ y → Written x m p n q → Written y n q k r → Written (write (s .body)) l start k r
     onward {k = k} {r = r} e a b = s .whole k r (subst (λ z. Written z m p k r) (sym e) (written-then (omega (arith, s .same)) a b))
 
     -- nothing is left
     pub finished : {n : Bytes} {q : ℕ} → at ≡ 0 → depth ≡ 0 → Written (ascii "]\n") m p n q
-        → (b : Body) → Holds text words st first b → Written (bodyBytes b ++ ascii "]\n") l start n q
+        → (b : Body) → Holds text words st first b → Written (write b) l start n q
     unfolding tail writeForm bodyForms
     finished {n} {q} a d w b h =
         let e : s .here ≡ end = ended (s .here) (s .before) at (s .last) (s .lo) (s .hi) (s .chain) (omega (arith, s .low)) a in
         let f : s .contexts ≡ [] = no-context (s .contexts) (s .deep ∙ d) in
         let v : Written (bodyBytes (s .here) ++ tail (s .contexts)) m p n q = rw (e, f) w in
-        subst (λ z. Written (bodyBytes z ++ ascii "]\n") l start n q) (holds-one text words (s .holds) h) (s .whole n q v)
+        subst (λ z. Written (write z) l start n q) (holds-one text words (s .holds) h) (s .whole n q v)
 
     -- the element at a link that is not 0
     module _ (some : at ≡ 0 → ⊥) where
@@ -348,17 +360,17 @@ module _ (text : Bytes) (words : List ℕ) (st : List Element) where
           go (then (block p v h b x) r) c = c .4 .3 .is .sound
           go (then (wrap p w b) r) c = c .4 .0 .is .sound
 
-      -- on to the next element
-      pub leaf-turn : {n : Bytes} {q : ℕ} → hasBody (roleOf (elementAt st at .element)) ≡ false → Written (opening text words (elementAt st at)) m p n q
-          → Turn first l start n ws q (elementAt st at .next) depth (leftSize ws at depth)
+      -- on to the next element; the entry is not waited for
+      leaf-turn : {n : Bytes} {q : ℕ} (v : code.Waiting) → hasBody (roleOf (elementAt st at .element)) ≡ false → Written (opening text words (elementAt st at)) m p n q
+          → Turn first l start n (set ws depth v) q (elementAt st at .next) depth (leftSize ws at depth)
       unfolding bodySize bodyForms writeForm
-      leaf-turn {n} {q} f w = go (s .here) refl (s .chain)
+      leaf-turn {n} {q} v f w = go (s .here) refl (s .chain)
         where
           go : (b : Body) → s .here ≡ b → Chain text words st (s .before) at (s .last) (s .lo) (s .hi) b
-              → Turn first l start n ws q (elementAt st at .next) depth (leftSize ws at depth)
+              → Turn first l start n (set ws depth v) q (elementAt st at .next) depth (leftSize ws at depth)
           go end e c = absurd (some (c .0))
-          go (then (block p v h b x) r) e c = absurd (clash (sym (ap hasBody (c .4 .3 .is .role)) ∙ f))
-          go (then (wrap p v b) r) e c = absurd (clash (sym (ap hasBody (c .4 .0 .is .role)) ∙ f))
+          go (then (block p k h b x) r) e c = absurd (clash (sym (ap hasBody (c .4 .3 .is .role)) ∙ f))
+          go (then (wrap p k b) r) e c = absurd (clash (sym (ap hasBody (c .4 .0 .is .role)) ∙ f))
           go (then (item o x) r) e c =
               let f = ap (λ b. bodyBytes b ++ tail (s .contexts)) e ∙ append-assoc (writeForm (itemForm (placeField o) x)) (bodyBytes r) (tail (s .contexts)) ∙ ap (_++ (bodyBytes r ++ tail (s .contexts))) (leaf-bytes (c .4)) in
               let z = ap bodySize e in
@@ -374,9 +386,9 @@ module _ (text : Bytes) (words : List ℕ) (st : List Element) where
                 low = omega (arith, s .low, c .1, c .2);
                 near = s .near;
                 contexts = s .contexts;
-                stack = s .stack;
+                stack = stack-same ws (set ws depth v) (s .hi) (s .contexts) (λ i j. getD-set-other ws depth i v noWaiting (λ t. omega (arith, s .deep))) (s .stack);
                 deep = s .deep;
-                long = s .long;
+                long = length-set ws depth v ∙ s .long;
                 whole = λ k r u. onward f w u;
                 same = written-length w ∙ s .same;
                 position = omega (arith, w .next);
@@ -430,7 +442,7 @@ module _ (text : Bytes) (words : List ℕ) (st : List Element) where
               position = omega (arith, w .next);
             }) (omega (arith, left-size s))
 
-        pub block-turn : hasBody (roleOf (elementAt st at .element)) ≡ true
+        block-turn : hasBody (roleOf (elementAt st at .element)) ≡ true
             → Turn first l start n (set ws depth (waits at false)) q (elementAt st at .template) (depth + 1) (leftSize ws at depth)
         unfolding bodySize bodyForms writeForm tail
         block-turn f = go (s .here) refl (s .chain)
@@ -448,6 +460,16 @@ module _ (text : Bytes) (words : List ℕ) (st : List Element) where
                 (ap (λ b. bodyBytes b ++ tail (s .contexts)) e ∙ ap (λ a. (a ++ bodyBytes r) ++ tail (s .contexts)) (wrap-node (c .4 .0) b) ∙ split (opening text words (elementAt st at)) (bodyBytes b) (ascii "]\n") (writeForms (elseForms noElse)) (bodyBytes r) (tail (s .contexts)))
                 (let z = ap bodySize e in omega arith) (c .1) (c .2) (omega arith) (c .3) (c .4 .2 .1) (c .4 .1) (c .5)
 
+        -- either way
+        pub element-turn : let more = hasBody (roleOf (elementAt st at .element)) in
+            Turn first l start n (set ws depth (waits at false)) q (linkInside (elementAt st at) more) (deeper depth more) (leftSize ws at depth)
+        element-turn = go (hasBody (roleOf (elementAt st at .element))) refl
+          where
+            go : (more : Bool) → hasBody (roleOf (elementAt st at .element)) ≡ more
+                → Turn first l start n (set ws depth (waits at false)) q (linkInside (elementAt st at) more) (deeper depth more) (leftSize ws at depth)
+            go true f = block-turn f
+            go false f = leaf-turn (waits at false) f w
+
     -- the block that waits, where a body ended
     module _ (over : at ≡ 0) (some : depth ≡ 0 → ⊥) where
       pub entry-near : (depth - 1 < 8193) × (getD ws (depth - 1) noWaiting .block < 8193)
@@ -462,7 +484,7 @@ module _ (text : Bytes) (words : List ℕ) (st : List Element) where
 
       -- the entry on top
       module _ {n : Bytes} {q : ℕ} where
-        pub else-turn : (elementAt st (getD ws (depth - 1) noWaiting .block) .inverted && not (getD ws (depth - 1) noWaiting .inverse)) ≡ true
+        else-turn : (elementAt st (getD ws (depth - 1) noWaiting .block) .inverted && not (getD ws (depth - 1) noWaiting .inverse)) ≡ true
             → Written (ascii "]\n[else\n") m p n q
             → Turn first l start n (set ws (depth - 1) (waits (getD ws (depth - 1) noWaiting .block) true)) q
             (elementAt st (getD ws (depth - 1) noWaiting .block) .inverse) (depth - 1 + 1) (leftSize ws at depth)
@@ -521,14 +543,14 @@ module _ (text : Bytes) (words : List ℕ) (st : List Element) where
                   position = omega (arith, w .next);
                 }) (omega (arith, left-size s))
 
-        pub close-turn : (elementAt st (getD ws (depth - 1) noWaiting .block) .inverted && not (getD ws (depth - 1) noWaiting .inverse)) ≡ false
+        close-turn : (v : code.Waiting) → (elementAt st (getD ws (depth - 1) noWaiting .block) .inverted && not (getD ws (depth - 1) noWaiting .inverse)) ≡ false
             → Written (ascii "]\n]\n") m p n q
-            → Turn first l start n ws q (elementAt st (getD ws (depth - 1) noWaiting .block) .next) (depth - 1) (leftSize ws at depth)
+            → Turn first l start n (set ws (depth - 1) v) q (elementAt st (getD ws (depth - 1) noWaiting .block) .next) (depth - 1) (leftSize ws at depth)
         unfolding bodySize stackSize bodyForms writeForm writeHead writeFields tail
-        close-turn f w = go (s .contexts) refl (s .deep) (s .stack)
+        close-turn v f w = go (s .contexts) refl (s .deep) (s .stack)
           where
             go : (cs : List Context) → s .contexts ≡ cs → length cs ≡ depth → Stack ws (s .hi) cs
-                → Turn first l start n ws q (elementAt st (getD ws (depth - 1) noWaiting .block) .next) (depth - 1) (leftSize ws at depth)
+                → Turn first l start n (set ws (depth - 1) v) q (elementAt st (getD ws (depth - 1) noWaiting .block) .next) (depth - 1) (leftSize ws at depth)
             go [] e d t = absurd (some (sym d))
             go (context z hi x r ∷ cs) e d t =
                 let i : length cs ≡ depth - 1 = omega arith in
@@ -552,10 +574,22 @@ module _ (text : Bytes) (words : List ℕ) (st : List Element) where
                   low = omega (arith, a .deep, a .order);
                   near = a .near;
                   contexts = cs;
-                  stack = t .1;
+                  stack = stack-same ws (set ws (depth - 1) v) hi cs (λ j k. getD-set-other ws (depth - 1) j v noWaiting (λ t. omega arith)) (t .1);
                   deep = i;
-                  long = s .long;
+                  long = length-set ws (depth - 1) v ∙ s .long;
                   whole = λ k r o. onward b w o;
                   same = written-length w ∙ s .same;
                   position = omega (arith, w .next);
                 }) (omega (arith, left-size s))
+
+        -- either way
+        pub back-turn : let u = getD ws (depth - 1) noWaiting in let more = elementAt st (u .block) .inverted && not (u .inverse) in
+            Written (bodyEnd more) m p n q
+            → Turn first l start n (set ws (depth - 1) (waits (u .block) true)) q (linkBehind (elementAt st (u .block)) more) (deeper (depth - 1) more) (leftSize ws at depth)
+        back-turn = go (elementAt st (getD ws (depth - 1) noWaiting .block) .inverted && not (getD ws (depth - 1) noWaiting .inverse)) refl
+          where
+            go : let u = getD ws (depth - 1) noWaiting in (more : Bool) → (elementAt st (u .block) .inverted && not (u .inverse)) ≡ more
+                → Written (bodyEnd more) m p n q
+                → Turn first l start n (set ws (depth - 1) (waits (u .block) true)) q (linkBehind (elementAt st (u .block)) more) (deeper (depth - 1) more) (leftSize ws at depth)
+            go true f w = else-turn f w
+            go false f w = close-turn (waits (getD ws (depth - 1) noWaiting .block) true) f w

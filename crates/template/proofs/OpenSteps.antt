@@ -1,6 +1,6 @@
 -- What a turn does to the open bodies while no block closes, over stores that are told by their elements: an element joins, a block
 -- opens, an else-if or a plain else begins. Assumes nothing.
-use Prim.Native.Nat.{ℕ, suc, _+_, _<_, _≤_}
+use Prim.Native.Nat.{ℕ, _+_, _<_, _≤_}
 use native.Mathlib.Omega.{arith}
 use mathlib.Core.Path.{_≡_, refl, ap, sym, subst, _∙_}
 use mathlib.Core.Bool.{Bool, true, false, not}
@@ -11,13 +11,12 @@ use lib.ListN.{length}
 use Rattle.support.specs.Bytes.{Bytes}
 use Rattle.support.specs.Position.{Place, placeOf}
 use Rattle.listing.specs.Tree.{Head}
-use Rattle.listing.specs.Tree as T
 use Rattle.listing.specs.Reading.{Elem, Body}
 use Rattle.listing.specs.Nesting.{nestElem, nestBody}
-use Rattle.template.specs.State.{Branch, closed, Owner, root, helper, inElse, wrapper, Level, level, ownerOf, openOf, sumOpen, toBody, bodyOf}
-use Rattle.template.specs.Element.{Role, itemMeans, headMeans, wrapMeans, placeMeans}
+use Rattle.template.specs.State.{Branch, closed, Owner, helper, inElse, Level, level, ownerOf, openOf, sumOpen, toBody, bodyOf}
+use Rattle.template.specs.Element.{Role, itemMeans, headMeans, wrapMeans}
 use Rattle.template.specs.Element as role
-use Rattle.template.specs.Store.{elementAt, Is, Leaf, Helper, Wrapper, Chain}
+use Rattle.template.specs.Store.{elementAt, Leaf, Helper, Wrapper, Chain}
 use Rattle.template.specs.Visit.{OpenedIs, leafMeans, Made}
 use Rattle.template.specs.Links.{inverseNode, setTemplate}
 use Rattle.template.specs.Turn.{refChainHead, emptied, begun, branched}
@@ -25,9 +24,9 @@ use Rattle.template.specs.declared.element.Element.{Element}
 use Rattle.template.specs.declared.frame.Frame.{Frame}
 use Rattle.template.specs.declared.frame.Opened.{Opened}
 use Rattle.template.specs.declared.frame.Opened.the-variants as O
-use Rattle.template.proofs.Store.{Same, SameBut, Solo, frame, is-like, helper-like}
-use Rattle.template.proofs.Nesting.{treeOf, anyDone}
-use Rattle.template.proofs.Levels.{linkTo, frameAt, Rooted, Kin, Shut, Gathered, gathered-low, owner-is, Lead, Inner, Outer, inner-low, frame-gathered, frame-inner, frame-outer}
+use Rattle.template.proofs.Store.{Same, SameBut, Solo, frame}
+use Rattle.template.proofs.Nesting.{treeOf}
+use Rattle.template.proofs.Levels.{frameAt, Rooted, Shut, Gathered, gathered-low, owner-is, Lead, Inner, Outer, inner-low, frame-gathered, frame-inner, frame-outer}
 use Rattle.template.proofs.Fits.{Filling, Fits, frame-fits}
 
 -- ---- what the frame says of its body's owner

@@ -28,11 +28,11 @@ use Rattle.template.specs.declared.element.Element.{Element}
 use Rattle.template.specs.declared.frame.Frame.{Frame}
 use Rattle.template.specs.declared.turn.Joined.{Joined}
 use Rattle.template.specs.declared.turn.Gapped.{Gapped}
-use Rattle.template.proofs.Store.{Same, SameBut, Solo, Linked, join-open, retouch, ends-snoc, at-same, at-other, snoc}
+use Rattle.template.proofs.Store.{Same, SameBut, Solo, Linked, join-open, retouch, ends-snoc, at-same, at-other}
 use Rattle.template.proofs.Nesting.{treeOf, tree-add}
-use Rattle.template.proofs.Levels.{frameAt, Lead, lead-low, frame-lead, frame-outer}
+use Rattle.template.proofs.Levels.{Lead, lead-low, frame-lead, frame-outer}
 use Rattle.template.proofs.Fits.{Filling, Fits, frame-fits, fits-last}
-use Rattle.template.proofs.OpenSteps.{Still, Waits, Mid, skip-step, add-step}
+use Rattle.template.proofs.OpenSteps.{Mid, skip-step, add-step}
 use Rattle.template.proofs.Trims.{trim-node, trim-kept}
 use Rattle.template.proofs.Turns.{Kept, Planned, bottom-other, bottom-same}
 

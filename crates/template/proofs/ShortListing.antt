@@ -21,7 +21,6 @@ use Rattle.listing.specs.Form.{Word, spell, place, writeField, writeHead, write
 use Rattle.listing.specs.Tree.{Elem, item, block, wrap, Body, end, then, Else, noElse, else}
 use Rattle.listing.specs.Listing.{bit, placeField, indentField, callForms, itemForm, elemForm, bodyForms, elseForms, write}
 use Rattle.listing.specs.Children.{decoratorChildren, helperChildren}
-use Rattle.listing.specs.Written.{largest}
 use Rattle.template.specs.Step.{anyBlanks}
 use Rattle.template.specs.Element.{Good, placeMeans, linkOf, rawMeans, commentMeans, callAt, indentMeans, itemMeans, headMeans, wrapMeans, roleOf}
 use Rattle.template.specs.Opening.{wrapOpening, decoratedBytes, openingBy, opening}
@@ -34,6 +33,7 @@ use Rattle.template.specs.declared.element.Element.{Element}
 use Rattle.template.proofs.element.Element.{the-type}
 use Rattle.template.proofs.ElementWrites.{head-one, text-bytes, comment-bytes, block-bytes, decorated-bytes}
 use Rattle.template.proofs.Lister.{bodyBytes, leaf-bytes, block-node, wrap-node}
+use Rattle.template.proofs.ListAnswers.{longest}
 use Rattle.template.proofs.ShortTexts.{comment-short, raw-short, blanks-short, quoted-short, decimal-short}
 use Rattle.template.proofs.ShortExpressions.{decorator-short, helper-short}
 
@@ -234,14 +234,14 @@ module _ (text : Bytes) (words : List ℕ) (good : Good text words) where
           omega (arith, length-append (bodyBytes b) (ascii "]\n"), length-append (bodyBytes b ++ ascii "]\n") [])
 
     -- the whole listing
-    pub listing-short : {first : ℕ} {b : Body} → Holds text words st first b → length (write b) ≤ largest
+    pub listing-short : {first : ℕ} {b : Body} → Holds text words st first b → length (write b) ≤ longest
     unfolding write bodyForms writeForm writeHead writeFields
     listing-short {first} {b} h = go (h .len) (h .few) (h .chain)
       where
-        go : (n : ℕ) → n ≤ 8193 → Chain text words st 0 first (h .last) 1 n b → length (write b) ≤ largest
+        go : (n : ℕ) → n ≤ 8193 → Chain text words st 0 first (h .last) 1 n b → length (write b) ≤ longest
         go zero g c = none b c
           where
-            none : (b : Body) → Chain text words st 0 first (h .last) 1 0 b → length (write b) ≤ largest
+            none : (b : Body) → Chain text words st 0 first (h .last) 1 0 b → length (write b) ≤ longest
             none end c = omega arith
             none (then e r) c = absurd (omega (arith, c .1, c .2, c .3))
         go (suc n) g c =

@@ -41,6 +41,7 @@ use Rattle.template.specs.declared.visit.Step.{Step}
 use Rattle.template.specs.declared.visit.Visit.{Visit}
 use Rattle.template.specs.declared.visit.Visit.the-variants as Vis
 use Rattle.template.proofs.TagKinds.{some-tag}
+use Rattle.template.proofs.TagSteps.{tag-gapless}
 use Rattle.template.proofs.WalkEquations.{walk-next, walk-stop}
 use Rattle.template.proofs.VisitLaws.{kind-refused}
 use Rattle.template.proofs.RawEscapes.{or-false-left, or-false-right}
@@ -141,6 +142,7 @@ module _ (text : Bytes) (words : List ℕ) (o : Options) (v : View) (s : Span) (
               makes = rw (the .1, reads .reads, f .0, f .1, f .2) (cc (t .makes (the .0) st (the .1) u, t .next));
               gap = t .gapMade st u;
               act = t .allowed (the .0) st (the .1) u (f .0) (reads .name);
+              gapless = λ w r. t .gapped ∙ tag-gapless (the .0) gap st (subst (λ k. nests k gap st ≡ true) (the .1) (u .nested)) w r;
               here = t .placed st u;
               previous = t .previous st;
               onward = omega (arith, reads .onward, t .next);
@@ -224,6 +226,7 @@ module _ (text : Bytes) (words : List ℕ) (o : Options) (v : View) (at : ℕ) w
           steps = ap (walk text words (o .«prevent_indent») (o .«is_partial») st) (w .first) ∙ walk-next text words (o .«prevent_indent») (o .«is_partial») st s _ _ (walks t ∙ k .makes);
           gap = k .gap;
           act = k .act;
+          gapless = k .gapless;
           here = k .here;
           previous = k .previous;
           onward = omega (arith, w .from, k .onward);

@@ -5,11 +5,10 @@ use mathlib.Core.Path.{_≡_, refl, sym, ap, _∙_}
 use mathlib.Core.List.{[], _∷_}
 use mathlib.Core.Bool.{Bool, true, false, _&&_, _||_, not}
 use lib.Dec.{ltb}
-use lib.ListN.{length, drop}
+use lib.ListN.{length, take, drop}
 use borrow.Author.Tests.{ltb-true, ltb-false, not-true, not-false}
-use Rattle.support.specs.Bytes.{Bytes, if, part, isEmpty}
+use Rattle.support.specs.Bytes.{Bytes, if, isEmpty}
 use Rattle.support.specs.TextRules.{startsWithEmptyLine, endsWithEmptyLine}
-use Rattle.support.proofs.Pieces.{from-here, up-to}
 use Rattle.json_path.specs.Span.{Span}
 use Rattle.template.specs.Kind as K
 use Rattle.template.specs.Kind.{Tag, Kind, plain, tagged, kinds, kindOf}
@@ -58,17 +57,14 @@ module _ (c : Bytes) (p : Bool) {a : Bool} (e : a ≡ startsWithEmptyLine c) whe
       more [] n = absurd (n refl)
       more (b ∷ c) n = refl
 
-module _ (text : Bytes) (s : Span) (p : Bool) {c : Bytes} {a : Bool} (f : c ≡ part text (s .end) (length text)) (e : a ≡ (startsWithEmptyLine c || (isEmpty c && not p))) where
-  ahead : a ≡ (startsWithEmptyLine (drop (s .end) text) || (isEmpty (drop (s .end) text) && not p))
-  ahead = e ∙ ap (λ z. startsWithEmptyLine z || (isEmpty z && not p)) (f ∙ from-here text (s .end))
-
+module _ (text : Bytes) (s : Span) (p : Bool) {a : Bool} (ahead : a ≡ (startsWithEmptyLine (drop (s .end) text) || (isEmpty (drop (s .end) text) && not p))) where
   pub standalone-no : not a ≡ true → false ≡ standalone text p s
   unfolding standalone
   standalone-no g = rw (← ahead, not-true a g)
 
-  pub standalone-by : {b : Bool} {d : Bytes} → not a ≡ false → d ≡ part text 0 (s .start) → b ≡ endsWithEmptyLine d → b ≡ standalone text p s
+  pub standalone-by : {b : Bool} → not a ≡ false → b ≡ endsWithEmptyLine (take (s .start) text) → b ≡ standalone text p s
   unfolding standalone
-  standalone-by g h i = rw (← ahead, not-false a g) (i ∙ ap endsWithEmptyLine (h ∙ up-to text (s .start)))
+  standalone-by g i = rw (← ahead, not-false a g) i
 
 -- ---- by the tag
 

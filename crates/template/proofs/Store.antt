@@ -12,7 +12,7 @@ use lib.Seq.{getD-set-same, getD-set-other}
 use Rattle.support.specs.Bytes.{Bytes}
 use Rattle.support.specs.Position.{Place}
 use Rattle.listing.specs.Tree.{Item, Wrap, Head, Elem, item, block, wrap, Body, end, then, Else, noElse, else}
-use Rattle.template.specs.Element.{Role, Sound, emptyElement, itemMeans, headMeans, wrapMeans, placeMeans, roleOf}
+use Rattle.template.specs.Element.{Role, emptyElement, itemMeans, headMeans, wrapMeans, placeMeans, roleOf}
 use Rattle.template.specs.Store.{elementAt, Is, Leaf, Helper, Wrapper, Chain, Node, ElseAt}
 use Rattle.template.specs.Links.{followedBy}
 use Rattle.template.specs.declared.element.Element.{Element}

@@ -46,7 +46,7 @@ use Rattle.template.specs.declared.visit.Visit.{Visit}
 use Rattle.template.specs.declared.visit.Visit.the-variants as Vis
 use Rattle.template.proofs.LastText.{trims}
 use Rattle.template.proofs.GapLaws.{and-yes, place-some, made, state-as}
-use Rattle.template.proofs.VisitLaws.{marksBehind, placed, filling, processed, behind, made-gap}
+use Rattle.template.proofs.VisitLaws.{marksBehind, placed, filling, none-waits, processed, behind, made-gap}
 
 -- ---- trims
 
@@ -116,6 +116,22 @@ closed t (v ∷ vs) x y g a e b w l c d n m h i j k =
     let q = closes t x in
     rw (q .1) (state-as (sym h) refl refl (sym i) (sym j) (sym k))
 
+root-no-kind : (k : K.BlockKind) → isOfKind k S.root ≡ true → ⊥
+unfolding isOfKind
+root-no-kind k e = let z : _≡_ {A = ℕ} 0 1 = cc in omega arith
+
+-- before a tag a root that waits takes no gap
+pub tag-gapless : (k : Tag) (gap : Bool) (st : State) → tagNests k gap st ≡ true → st .stage ≡ S.waiting → owner st ≡ S.root → gap ≡ false
+unfolding tagNests
+tag-gapless (K.blockStart k) gap st n w r = none-waits w n
+tag-gapless K.invertTag gap st n w r = none-waits w (and-left (isFilling (st .stage)) _ n)
+tag-gapless K.invertChainTag gap st n w r = none-waits w (and-left (isFilling (st .stage)) _ n)
+tag-gapless K.expression gap st n w r = none-waits w n
+tag-gapless K.htmlExpression gap st n w r = none-waits w n
+tag-gapless K.decoratorExpression gap st n w r = none-waits w n
+tag-gapless K.partialExpression gap st n w r = none-waits w n
+tag-gapless (K.blockEnd k) gap st n w r = absurd (root-no-kind k (ap (isOfKind k) (sym r) ∙ and-left (isOfKind k (owner st)) _ n))
+
 -- what a tag asks of the state behind its gap and trims
 abbrev Ready : Tag → S.Stage → Level → List Level → Type 0
 Ready (K.blockStart k) g t u = Unit {0}
@@ -184,10 +200,6 @@ module _ (text : Bytes) (words : List ℕ) (o : Options) (v : View) (s : Span) (
   still-filling : (gap : Bool) {g h : S.Stage} → g ≡ if gap (afterGap h) h → h ≡ S.filling → g ≡ S.filling
   still-filling true e f = e ∙ ap afterGap f
   still-filling false e f = e ∙ f
-
-  root-no-kind : (k : K.BlockKind) → isOfKind k S.root ≡ true → ⊥
-  unfolding isOfKind
-  root-no-kind k e = let z : _≡_ {A = ℕ} 0 1 = cc in omega arith
 
   module _ {gap : Bool} {st : State} (h : Visited text v s gap here st) where
     nested-as : (k : Tag) → kindOf (s .tag) ≡ tagged k → tagNests k gap st ≡ true
@@ -265,6 +277,7 @@ module _ (text : Bytes) (words : List ℕ) (o : Options) (v : View) (s : Span) (
       makes = step-as;
       gapMade = λ st h. made-gap text words o v s here g gap new i j h;
       allowed = λ k st u h n y. subst (λ z. Allowed text words z st) (sym (act-as k u)) (may h mark ind k (nested-as h k u) n y);
+      gapped = refl;
       placed = λ st h. placed h;
       previous = λ st. refl;
       next = refl;

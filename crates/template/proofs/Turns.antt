@@ -1,25 +1,22 @@
 -- A turn's own part as stores of values: what a plan stores keeps the fit, by cases of the act, and of the closing turns. Assumes nothing.
-use Prim.Native.Nat.{ℕ, suc, _+_, _-_, _<_, _≤_}
+use Prim.Native.Nat.{ℕ, _+_, _-_, _<_, _≤_}
 use native.Mathlib.Omega.{arith}
 use mathlib.Core.Path.{_≡_, refl, ap, sym, subst, _∙_}
-use mathlib.Core.Bool.{Bool, true, false, not}
-use mathlib.Core.Logic.{⊎-elim, _⊎_, inl, inr}
+use mathlib.Core.Bool.{Bool, true, false}
 use mathlib.Core.List.{List, [], _∷_}
 use mathlib.Core.Option.{Option}
-use lib.ListN.{length, getD, set, length-set}
+use lib.ListN.{length, set, length-set}
 use lib.Seq.{getD-set-same, getD-set-other, set-getD}
 use lib.Dec.{eqb}
 use borrow.Author.Tests.{eqb-true, eqb-false}
 use Rattle.support.specs.Bytes.{Bytes, if}
-use Rattle.listing.specs.Tree.{Head}
-use Rattle.listing.specs.Reading.{Elem}
 use Rattle.template.specs.State.{Stage, state, Owner, root, helper, inElse, wrapper, Level, level, State, ownerOf, owner, addTo, openOf, nextBranch, elseBranch, closeLevel, closeBlock, openBlock, sumOpen, openCount}
 use Rattle.template.specs.Nests.{takesElse}
 use Rattle.template.specs.Element.{headMeans, emptyElement}
 use Rattle.template.specs.Element as role
 use Rattle.template.specs.Store.{elementAt}
 use Rattle.template.specs.Visit.{OpenedIs, leafMeans, ownerMeans, actEffect, Allowed, Made}
-use Rattle.template.specs.Turn.{emptyFrame, begun, refChainHead, closePlan, shutPlan, templatePlan, actPlan, planOf, turnOf}
+use Rattle.template.specs.Turn.{emptyFrame, begun, refChainHead, shutPlan, templatePlan, actPlan, planOf, turnOf}
 use Rattle.template.specs.declared.element.TemplateElement.the-variants as E
 use Rattle.template.specs.declared.element.Element.{Element}
 use Rattle.template.specs.declared.frame.Frame.{Frame}
@@ -65,9 +62,9 @@ openAt st lv x depth len count =
     record { top = x; below = frameAt lv (depth - 1); owner = elementAt st (refChainHead (x .block) (x .head)); depth = depth; len = len; count = count }
 
 -- a closing turn leaves fewer open and makes nothing; another one leaves one more open at most and makes one element at most
-abbrev pub Pays : Bool → ℕ → ℕ → ℕ → ℕ → Type 0
-Pays true count′ count len′ len = (count′ < count) × (len′ ≡ len)
-Pays false count′ count len′ len = (count′ ≤ count + 1) × (len′ ≤ len + 1)
+abbrev pub Counted : Bool → ℕ → ℕ → ℕ → ℕ → Type 0
+Counted true count′ count len′ len = (count′ < count) × (len′ ≡ len)
+Counted false count′ count len′ len = (count′ ≤ count + 1) × (len′ ≤ len + 1)
 
 -- number 0 is no element
 abbrev pub Bottom : List Element → Type 0
@@ -109,7 +106,7 @@ module _ (text : Bytes) (words : List ℕ) where
   pub record Turned (n : ℕ) (st : List Element) (lv : List Frame) (w len count : ℕ) (closing : Bool) (p : Plan) (l : Level) (ls : List Level) : Type 0 where
     pub turn : Planned n (set (set st len (p .made)) w (p .owner)) (set lv (p .slot) (p .put)) (p .top) (p .depth) (p .len) (p .count) (p .closing) (p .join) l ls
     pub slot : p .slot < 64
-    pub pays : Pays closing (p .count) count (p .len) len
+    pub counted : Counted closing (p .count) count (p .len) len
 
   module _ (n : ℕ) (st : List Element) (lv : List Frame) (x : Frame) (depth len count : ℕ) (room : len < n) where
     abbrev pub Goal : Bool → Turn → Level → List Level → Type 0
@@ -155,7 +152,7 @@ module _ (text : Bytes) (words : List ℕ) where
               (opens.skip-step text words st _ lv _ x depth len count _ (k .pos) refl agree false l ls (same-at st len _ _ _ v r refl) (k .fits))
               (omega arith) (k .cap) refl;
           slot = omega (arith, deep-of false l ls k, k .cap);
-          pays = (omega arith, omega arith);
+          counted = (omega arith, omega arith);
         }
 
     plan-add : (l : Level) (ls : List Level) (e : Element) → Made text words role.leaf e → Kept n st lv x depth len count false l ls → Goal false (Turn.Act (A.Add e)) (addTo (leafMeans text words e) l) ls
@@ -169,7 +166,7 @@ module _ (text : Bytes) (words : List ℕ) where
               (opens.add-step text words st _ lv _ x depth len count _ (k .pos) refl agree o es ls e (made-at st len _ _ _ v r) m (same-at st len _ _ _ v r refl) (k .fits))
               (omega arith) (k .cap) refl;
           slot = omega (arith, deep-of false l ls k, k .cap);
-          pays = (omega arith, omega arith);
+          counted = (omega arith, omega arith);
         }
 
     plan-begin : (l : Level) (ls : List Level) (e : Element) (op : Opened) (o : Owner)
@@ -186,7 +183,7 @@ module _ (text : Bytes) (words : List ℕ) where
               (lead _ (made-at st len _ _ _ v r) (k .pos)) is one rooted (same-at st len _ _ _ v r refl) (getD-set-same lv depth x emptyFrame (omega (arith, d, k .wide))) (k .fits))
               (omega arith) (omega arith) refl;
           slot = omega (arith, d);
-          pays = (omega arith, omega arith);
+          counted = (omega arith, omega arith);
         }
 
     plan-open : (s : State) (e : Element) (op : Opened) → Allowed text words (A.Begin e op) s → count ≡ openCount s → Kept n st lv x depth len count false (s .top) (s .outer)
@@ -224,7 +221,7 @@ module _ (text : Bytes) (words : List ℕ) where
               (opens.chain-step text words st _ lv _ x depth len count _ (k .pos) refl agree raw p bs h es ls (own-at st len _ _ _ v r) (but-at st len _ _ _ v r) (k .fits) e (made-at st len _ _ _ v r) m)
               (omega arith) (omega arith) refl;
           slot = omega (arith, deep-of false l ls k, k .cap);
-          pays = (omega arith, omega arith);
+          counted = (omega arith, omega arith);
         }
 
     plan-else : (l : Level) (ls : List Level) → takesElse (ownerOf l) ≡ true → Kept n st lv x depth len count false l ls → Goal false (Turn.Act A.Else) (elseBranch l) ls
@@ -241,7 +238,7 @@ module _ (text : Bytes) (words : List ℕ) where
               (opens.else-step text words st _ lv _ x depth len count _ (k .pos) refl agree raw p bs h es ls (own-at st len _ _ _ v r) (but-at st len _ _ _ v r) (k .fits) a)
               (omega arith) (k .cap) refl;
           slot = omega (arith, deep-of false l ls k, k .cap);
-          pays = (omega arith, omega arith);
+          counted = (omega arith, omega arith);
         }
 
     -- ---- a block closes
@@ -277,7 +274,7 @@ module _ (text : Bytes) (words : List ℕ) where
               (closes.seal-step text words st _ lv _ x depth len count _ (k .pos) refl agree raw p bs h es o fs ls (own-at st len _ _ _ v r) (but-at st len _ _ _ v r) (k .fits))
               (omega arith) (k .cap) refl;
           slot = omega (arith, deep-of false l ms k, k .cap);
-          pays = (omega arith, omega arith);
+          counted = (omega arith, omega arith);
         })
     plan-close g (level (wrapper p w) es) (level o fs ∷ ls) end pro line a k =
         let l : Level = level (wrapper p w) es in
@@ -289,7 +286,7 @@ module _ (text : Bytes) (words : List ℕ) where
               (closes.wrap-step text words st _ lv _ x depth len count _ (k .pos) refl agree p w es o fs ls (own-at st len _ _ _ v r) (but-at st len _ _ _ v r) (k .fits))
               (omega arith) (k .cap) refl;
           slot = omega (arith, deep-of false l ms k, k .cap);
-          pays = (omega arith, omega arith);
+          counted = (omega arith, omega arith);
         })
     plan-close g (level (inElse p h b bs) es) (level o fs ∷ ls) end pro line a k =
         let l : Level = level (inElse p h b bs) es in
@@ -301,7 +298,7 @@ module _ (text : Bytes) (words : List ℕ) where
               (closes.shut-step text words st _ lv _ x depth len count _ (k .pos) refl agree p h b bs es o fs ls (same-at st len _ _ _ v r refl) (k .fits))
               (omega arith) (k .cap) refl;
           slot = omega (arith, deep-of false l ms k, k .cap);
-          pays = (omega arith, omega arith);
+          counted = (omega arith, omega arith);
         })
 
     plan-revert : (l : Level) (ls : List Level) → 0 < x .head → Kept n st lv x depth len count true l ls → Goal true Turn.Revert l ls
@@ -314,7 +311,7 @@ module _ (text : Bytes) (words : List ℕ) where
               (closes.revert-step text words st _ lv _ x depth len count _ (k .pos) refl agree l ls a (own-at st len _ _ _ v r) (but-at st len _ _ _ v r) (k .fits))
               (omega arith) (omega (arith, k .cap)) refl;
           slot = omega (arith, deep-of true l ls k, k .cap);
-          pays = (omega (arith, deep-of true l ls k, k .fits .deep), refl);
+          counted = (omega (arith, deep-of true l ls k, k .fits .deep), refl);
         }
 
     plan-set : (l : Level) (ls : List Level) → x .head ≡ 0 → Kept n st lv x depth len count true l ls → Goal true Turn.Set l ls
@@ -327,7 +324,7 @@ module _ (text : Bytes) (words : List ℕ) where
               (closes.set-step text words st _ lv _ x depth len count _ (k .pos) refl agree l ls a (own-at st len _ _ _ v r) (but-at st len _ _ _ v r) (k .fits))
               (omega arith) (omega (arith, k .cap)) refl;
           slot = omega (arith, deep-of true l ls k, k .cap);
-          pays = (omega (arith, deep-of true l ls k, k .fits .deep), refl);
+          counted = (omega (arith, deep-of true l ls k, k .fits .deep), refl);
         }
 
     -- ---- in all

@@ -3,7 +3,7 @@ use Prim.Native.Nat.{ℕ, _+_, _≤_}
 use native.Mathlib.Omega.{arith}
 use mathlib.Core.Path.{_≡_, refl, sym, ap, subst, _∙_}
 use mathlib.Core.List.{List}
-use mathlib.Core.Bool.{Bool, true, false, _&&_, not}
+use mathlib.Core.Bool.{Bool, true, false, _&&_, _||_, not}
 use mathlib.Core.Option.{Option, none, some}
 use lib.Dec.{eqb}
 use borrow.Author.Tests.{eqb-true, eqb-false}
@@ -87,6 +87,20 @@ filling S.waiting e = let z : _≡_ {A = ℕ} 0 1 = cc in absurd (omega arith)
 filling S.filling e = refl
 filling S.full e = let z : _≡_ {A = ℕ} 0 1 = cc in absurd (omega arith)
 
+-- and one that waits does not
+pub none-waits : {g : S.Stage} {P : Type 0} → g ≡ S.waiting → isFilling g ≡ true → P
+none-waits e f = let z : _≡_ {A = ℕ} 0 1 = (let y = ap isFilling (sym e) ∙ f in cc) in absurd (omega (arith, z))
+
+-- before a skipped span such a body takes no gap
+skipped-gapless : (gap : Bool) (st : State) → plainNests K.skipped gap st ≡ true → st .stage ≡ S.waiting → gap ≡ false
+unfolding plainNests
+skipped-gapless true st n w = none-waits w (or-no (isFilling (st .stage)) n)
+  where
+    or-no : (a : Bool) → (a || false) ≡ true → a ≡ true
+    or-no true e = refl
+    or-no false e = e
+skipped-gapless false st n w = refl
+
 -- the standalone test's answer, in a state
 pub processed : (alone cut : Bool) (g : S.Stage) (t : Level) (u : List Level) (e : Option ℕ) (w l : Bool)
     → processStandalone alone cut (state g t u e w l) ≡ state g (if (alone && cut) (trimLast trimEndBlanks t) t) u e w alone
@@ -143,6 +157,7 @@ module _ (text : Bytes) (words : List ℕ) (o : Options) (v : View) (s : Span) (
           makes = plain-makes K.template (ap kindOf e) st refl (state-as refl (sym (trim-kept (st .top))) refl (sym (a .endPos)) (sym (a .omitProWs)) (sym (a .trimLine)));
           gap = tt;
           act = tt;
+          gapless = λ w r. refl;
           here = subst (λ n. HereIs text (v .here) n) (sym (a .previous)) (t .here);
           previous = a .previous ∙ ap (λ z. elim z [ none ↦ 0 | some n ↦ n ]) (sym (a .endPos));
           onward = omega arith;
@@ -176,6 +191,7 @@ module _ (text : Bytes) (words : List ℕ) (o : Options) (v : View) (s : Span) (
             ∙ state-as refl (sym (trim-kept (gapEffect text words gap x st .top))) (sym (gap-outer text words gap x st)) refl (sym (h .tells .marks .omitProWs)) refl);
         gap = made-gap h;
         act = tt;
+        gapless = λ w r. skipped-gapless gap st (subst (λ k. nests k gap st ≡ true) e (h .nested)) w;
         here = placed h;
         previous = refl;
         onward = omega arith;
@@ -201,18 +217,19 @@ module _ (text : Bytes) (words : List ℕ) (o : Options) (v : View) (s : Span) (
           ∙ ap (addTo (leafMeans text words y)) (trims false alone t₁))
           (sym (gap-outer text words gap x st)) refl (sym (h .tells .marks .omitProWs)) (sym a)
 
-      comment-is : (k : Plain) (t : Bytes) → kindOf (s .tag) ≡ plain k → ((st : State) → faultyEscape text words k st s ≡ false)
+      comment-is : (k : Plain) (t : Bytes) → kindOf (s .tag) ≡ plain k → ((st : State) → plainNests k gap st ≡ isFilling (st .stage)) → ((st : State) → faultyEscape text words k st s ≡ false)
           → ((st : State) → plainStep text words (o .«is_partial») k st s ≡ withEndPos (s .end) (addComment text (o .«is_partial») t st s))
           → itemMeans text words (y .element) ≡ T.comment t → y ≡ newElement (y .element) (here .place) → roleOf (y .element) ≡ leaf → Sound text words (y .element)
           → KindIs text words o v s gap here (Vis.Step commentStep)
       unfolding withMarks
-      comment-is k t e f p q n r u = record {
+      comment-is k t e i f p q n r u = record {
         means = λ st h.
             let w : y .place ≡ here .place = ap (λ z. z .place) n in
             record {
               makes = plain-makes k e st (f st) (p st ∙ comment-as t h (cc (h .place, q, w)));
               gap = made-gap h;
               act = record { new = n ∙ cc (w); is = record { role = r; place = place-some text (s .start) (cc (w, h .place)); sound = u } };
+              gapless = λ a b. none-waits a (sym (i st) ∙ subst (λ c. nests c gap st ≡ true) e (h .nested));
               here = placed h;
               previous = refl;
               onward = omega arith;
@@ -222,7 +239,7 @@ module _ (text : Bytes) (words : List ℕ) (o : Options) (v : View) (s : Span) (
       pub comment-step : (compact : Bool) {b : Back} → b ≡ trimOf false alone → 19 ≤ s .tag → s .tag ≤ 20 → compact ≡ eqb (s .tag) 19
           → y ≡ newElement (E.Comment (record { start = s .start; end = s .end; compact = compact })) (here .place)
           → KindIs text words o v s gap here (Vis.Step (record { gapped = gap; gap = x; back = b; act = A.Add y; marks = marksBehind g (s .end) (m .«omit_pro_ws») alone; here = here; next = s .number + 1 }))
-      unfolding K.kinds plainStep itemMeans
+      unfolding K.kinds plainNests plainStep itemMeans
       comment-step compact d lo hi c n =
           subst (λ z. KindIs text words o v s gap here (Vis.Step (record { gapped = gap; gap = x; back = z; act = A.Add y; marks = marksBehind g (s .end) (m .«omit_pro_ws») alone; here = here; next = s .number + 1 }))) (sym d)
           (go (eqb (s .tag) 19) refl)
@@ -234,12 +251,12 @@ module _ (text : Bytes) (words : List ℕ) (o : Options) (v : View) (s : Span) (
           as-new = n ∙ ap (λ z. newElement z (here .place)) (sym element)
 
           go : (b : Bool) → eqb (s .tag) 19 ≡ b → KindIs text words o v s gap here (Vis.Step commentStep)
-          go true e = comment-is K.commentCompact (commentCompactText (own text s)) (ap kindOf (eqb-true (s .tag) 19 e)) (λ st. refl) (λ st. refl)
+          go true e = comment-is K.commentCompact (commentCompactText (own text s)) (ap kindOf (eqb-true (s .tag) 19 e)) (λ st. refl) (λ st. refl) (λ st. refl)
               (rw (element, c, e)) as-new (ap roleOf element) (subst (λ z. Sound text words z) (sym element) tt)
           go false e =
               let n = eqb-false (s .tag) 19 e in
               let t : s .tag ≡ 20 = omega arith in
-              comment-is K.comment (commentText (own text s)) (ap kindOf t) (λ st. refl) (λ st. refl)
+              comment-is K.comment (commentText (own text s)) (ap kindOf t) (λ st. refl) (λ st. refl) (λ st. refl)
               (rw (element, c, e)) as-new (ap roleOf element) (subst (λ z. Sound text words z) (sym element) tt)
 
   -- ---- texts
@@ -277,6 +294,7 @@ module _ (text : Bytes) (words : List ℕ) (o : Options) (v : View) (s : Span) (
                 (state-as g (ap (λ z. addTo z (st .top)) (sym (text-leaf K.rawText (h .place) (h .tells .marks) n)) ∙ ap (addTo (leafMeans text words y)) (sym (trim-kept (st .top)))) refl refl (sym (h .tells .marks .omitProWs)) refl);
             gap = tt;
             act = text-made h (omega (arith, h .early, h .fits .order)) (ap (isCharBoundary text) n ∙ h .tells .here .between) c;
+            gapless = λ w r. refl;
             here = placed h;
             previous = refl;
             onward = omega arith;
@@ -292,6 +310,7 @@ module _ (text : Bytes) (words : List ℕ) (o : Options) (v : View) (s : Span) (
             (state-as refl (ap (λ z. addTo z (st .top)) (sym (text-leaf K.rawBlockText (h .place) (h .tells .marks) b)) ∙ ap (addTo (leafMeans text words y)) (sym (trim-kept (st .top)))) refl refl (sym (h .tells .marks .omitProWs)) (sym (h .tells .marks .trimLine)));
         gap = tt;
         act = text-made h (omega (arith, b, h .fits .order)) (ap (isCharBoundary text) b ∙ h .fits .starts) c;
+        gapless = λ w r. refl;
         here = placed h;
         previous = refl;
         onward = omega arith;

@@ -26,3 +26,6 @@ pub mod Links
 pub mod Turn
 pub mod Opening
 pub mod Visiting
+pub mod Call
+pub mod Finish
+pub mod Lines

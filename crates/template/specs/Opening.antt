@@ -1,8 +1,9 @@
--- What is written of a stored element before its body: all of an element that has none.
+-- What is written of a stored element before its body: all of an element that has none. What is written behind a body, and where the
+-- listing goes on.
 use mathlib.Core.List.{List, [], _∷_, _++_}
 use mathlib.Core.Bool.{Bool, true, false}
 use mathlib.Core.Option.{Option}
-use Prim.Native.Nat.{ℕ}
+use Prim.Native.Nat.{ℕ, _+_}
 use Rattle.support.specs.Bytes.{Bytes, ascii}
 use Rattle.support.specs.Position.{Place}
 use Rattle.listing.specs.Form.{Word, Field, writeField, writeHead, nil, writeForm, writeForms}
@@ -51,3 +52,23 @@ hasBody nothing = false
 -- a block that waits while its body, or its else, is listed
 abbrev pub waits : ℕ → Bool → Waiting
 waits block inverse = record { block = block; inverse = inverse }
+
+-- the end of a body: the first line of the else, if there is more of the block, or the block's end
+abbrev pub bodyEnd : Bool → Bytes
+bodyEnd true = ascii "]\n[else\n"
+bodyEnd false = ascii "]\n]\n"
+
+-- how many blocks wait, when one more does or not
+abbrev pub deeper : ℕ → Bool → ℕ
+deeper depth true = depth + 1
+deeper depth false = depth
+
+-- the link after an element's opening: into its body, or on
+abbrev pub linkInside : Element → Bool → ℕ
+linkInside e true = e .template
+linkInside e false = e .next
+
+-- the link after a body: into the else, or on
+abbrev pub linkBehind : Element → Bool → ℕ
+linkBehind e true = e .inverse
+linkBehind e false = e .next

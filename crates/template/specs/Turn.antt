@@ -1,16 +1,27 @@
 -- What a turn of the walk does to the store: the values that it stores, and where.
 use Prim.Native.Nat.{ℕ, _+_, _-_}
+use mathlib.Core.Path.{_≡_}
+use mathlib.Core.List.{List}
 use mathlib.Core.Bool.{Bool, true, false}
 use lib.Dec.{eqb}
-use Rattle.support.specs.Bytes.{if}
+use Rattle.support.specs.Bytes.{Bytes, if}
 use Rattle.template.specs.Element.{emptyElement}
 use Rattle.template.specs.Links.{inverseNode, followedBy, setTemplate, setInverse}
+use Rattle.template.specs.Visit.{VisitIs}
+use Rattle.template.specs.declared.element.Back.the-variants as Back
 use Rattle.template.specs.declared.element.Element.{Element}
 use Rattle.template.specs.declared.frame.Frame.{Frame}
 use Rattle.template.specs.declared.frame.Opened.{Opened}
 use Rattle.template.specs.declared.frame.Opened.the-variants as O
 use Rattle.template.specs.declared.visit.Act.{Act}
 use Rattle.template.specs.declared.visit.Act.the-variants as A
+use Rattle.template.specs.declared.turn.ChainHead.{ChainHead}
+use Rattle.template.specs.declared.turn.ChainHead.the-variants as ChainHead
+use Rattle.template.specs.declared.visit.Options.{Options}
+use Rattle.template.specs.declared.visit.View.{View}
+use Rattle.template.specs.declared.visit.Step.{Step}
+use Rattle.template.specs.declared.visit.Visit.{Visit}
+use Rattle.template.specs.declared.visit.Visit.the-variants as Vis
 use Rattle.template.specs.declared.turn.Turn.{Turn}
 use Rattle.template.specs.declared.turn.Turn.the-variants as Turn
 use Rattle.template.specs.declared.turn.Plan.{Plan}
@@ -21,6 +32,10 @@ use Rattle.template.specs.declared.turn.Gapped.{Gapped}
 -- the root's body, with nothing in it
 abbrev pub emptyFrame : Frame
 emptyFrame = record { opened = O.Root; block = 0; head = 0; first = 0; last = 0; chain = false; inverted = false }
+
+-- the newest else-if node, if there is one
+unfoldable pub headOf : ℕ → ChainHead
+headOf n = if (eqb n 0) ChainHead.None (ChainHead.Node n)
 
 -- the element that the open body belongs to: the newest else-if node, or the block
 unfoldable pub refChainHead : ℕ → ℕ → ℕ
@@ -114,3 +129,14 @@ joinedOf x last at =
 -- the gap's element, if it is kept
 unfoldable pub gappedOf : Bool → Element → ℕ → Gapped
 gappedOf kept gap len = if kept (record { made = gap; len = len + 1; join = len }) (record { made = emptyElement; len = len; join = 0 })
+
+-- ---- what is visited
+
+-- nothing happens
+abbrev pub stillStep : View → ℕ → Step
+stillStep v at = record { gapped = false; gap = emptyElement; back = Back.Kept; act = A.Skip; marks = v .marks; here = v .here; next = at }
+
+-- r is what a turn does first: while a block closes nothing, else the visit
+pub record LookIs (text : Bytes) (words : List ℕ) (o : Options) (v : View) (at : ℕ) (closing : Bool) (r : Visit) : Type 0 where
+  pub still : closing ≡ true → r ≡ Vis.Step (stillStep v at)
+  pub visits : closing ≡ false → VisitIs text words o v at r

@@ -179,6 +179,8 @@ module _ (text : Bytes) (words : List ℕ) where
     pub steps : walk text words (o .«prevent_indent») (o .«is_partial») st (spansFrom words at) ≡ walk text words (o .«prevent_indent») (o .«is_partial») (applied p st) (spansFrom words (p .next))
     pub gap : GapMade (p .gapped) (p .gap)
     pub act : Allowed (p .act) st
+    -- a root that waits takes no gap
+    pub gapless : st .stage ≡ S.waiting → owner st ≡ S.root → p .gapped ≡ false
     pub here : HereIs text (p .here) (p .marks .«end_pos»)
     pub previous : p .marks .«end_pos» ≡ prevEnd (withMarks (p .marks) st)
     pub onward : at < p .next

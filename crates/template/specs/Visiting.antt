@@ -72,6 +72,8 @@ module _ (text : Bytes) (words : List ℕ) where
     pub makes : walkKind text words (o .«prevent_indent») (o .«is_partial») (kindOf (s .tag)) st s (spansFrom words (s .number + 1)) ≡ accepted (applied text words p st, spansFrom words (p .next))
     pub gap : GapMade text words (p .gapped) (p .gap)
     pub act : Allowed text words (p .act) st
+    -- a root that waits takes no gap
+    pub gapless : st .stage ≡ S.waiting → S.owner st ≡ S.root → p .gapped ≡ false
     pub here : HereIs text (p .here) (p .marks .«end_pos»)
     pub previous : p .marks .«end_pos» ≡ prevEnd (withMarks (p .marks) st)
     pub onward : s .number < p .next
@@ -92,6 +94,7 @@ module _ (text : Bytes) (words : List ℕ) where
     pub gapMade : (st : State) → Visited text v s gap here st → GapMade text words (p .gapped) (p .gap)
     pub allowed : (k : Tag) (st : State) → kindOf (s .tag) ≡ tagged k → Visited text v s gap here st → tooManyOpen k st ≡ false
         → asName (paramMeans text words (x .name)) ≡ nameOf (callAt text words (x .from) (s .end)) → Allowed text words (p .act) st
+    pub gapped : p .gapped ≡ gap
     pub placed : (st : State) → Visited text v s gap here st → HereIs text (p .here) (p .marks .«end_pos»)
     pub previous : (st : State) → p .marks .«end_pos» ≡ prevEnd (withMarks (p .marks) st)
     pub next : p .next ≡ x .next

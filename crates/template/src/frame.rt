@@ -1,4 +1,6 @@
 // What is open, and the marks that the walk keeps.
+ghost use mathlib.Core.Path.{_≡_};
+ghost use Rattle.template.specs.Turn.{begun};
 
 // The kinds of open bodies: the root's, and those of the four block starts.
 pub enum Opened {
@@ -36,6 +38,21 @@ impl Frame {
         chain: false,
         inverted: false,
     };
+
+    // The body of a block that begins, with nothing in it.
+    pub(crate) fn new(opened: Opened, block: usize) -> Frame
+        ensures { λ r. ⌜ r ≡ begun opened block ⌝ }
+    {
+        Frame {
+            opened: opened,
+            block: block,
+            head: 0,
+            first: 0,
+            last: 0,
+            chain: false,
+            inverted: false,
+        }
+    }
 }
 
 // The innermost body is waited for, or takes elements, or is a raw body that takes nothing more.

@@ -1,10 +1,12 @@
 // The walk over the spans and `compile2`, after handlebars' src/template.rs.
-mod compile;
+pub mod compile;
 mod element;
 mod frame;
+mod lines;
 mod list;
 mod raw;
 mod reason;
 mod tag;
 mod turn;
 mod visit;
+mod walk;

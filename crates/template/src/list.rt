@@ -18,6 +18,7 @@ use support::position::Place;
 use support::str::find_trailing_whitespace_chars;
 use support::str::hbs_comment_compact_text;
 use support::str::hbs_comment_text;
+ghost use Prim.Native.Nat.{_<_};
 ghost use mathlib.Core.Path.{_≡_};
 ghost use mathlib.Core.List.{[], _++_};
 ghost use mathlib.Core.Bool.{_&&_, not};
@@ -34,7 +35,7 @@ ghost use Rattle.template.specs.Compile.{fit};
 ghost use Rattle.template.specs.Answers.{AnswerIs};
 ghost use Rattle.template.specs.Element.{placeMeans, linkOf, rawMeans, commentMeans, indentMeans, headAt, roleOf, Good, RawGood, Sound};
 ghost use Rattle.template.specs.Store.{Holds, Stored};
-ghost use Rattle.template.specs.Opening.{blockOpening, decoratedBytes, opening, hasBody, waits};
+ghost use Rattle.template.specs.Opening.{blockOpening, decoratedBytes, opening, hasBody, waits, bodyEnd, deeper, linkInside, linkBehind};
 
 // A block of which the body, or the else, is being listed.
 pub struct Waiting {
@@ -245,9 +246,10 @@ pub(crate) fn write_element(
     }
 }
 
-fn has_body(x: TemplateElement) -> bool
-    ensures { λ r. ⌜ r ≡ hasBody (roleOf x) ⌝ }
+fn has_body(e: Element) -> bool
+    ensures { λ r. ⌜ r ≡ hasBody (roleOf (e .element)) ⌝ }
 {
+    let x = e.element;
     match x {
         TemplateElement::Empty => false,
         TemplateElement::RawString(_) => false,
@@ -272,55 +274,50 @@ fn has_else(e: Element, w: Waiting) -> bool
     false
 }
 
-// Goes from element to element, and back to the block that waits where a body ends.
-fn write_all(
-    elements: [Element; Element::LIMIT],
-    first: usize,
-    text: &[u8],
-    words: &[u32],
-    out: &mut [u8],
-) -> usize
-    requires { ⌜ Good (now text) (now words) × Stored (now text) (now words) elements first ⌝ }
-    ensures { λ r. ⌜ ((b : Body) → Holds (now (text .entry)) (now (words .entry)) elements first b → Written (write b) (now (out .entry)) 0 (now (out .exit)) r) ⌝ }
+// The end of a body: more of the block follows, its else, or the block ends too.
+fn write_end(out: &mut [u8], at: usize, more: bool) -> usize
+    ensures { λ r. ⌜ Written (bodyEnd more) (now (out .entry)) at (now (out .exit)) r ⌝ }
 {
-    let mut waiting = [Waiting::EMPTY; Element::LIMIT];
-    let mut p = put_bytes(out, 0, b"[template\n");
-    let mut at = first;
-    let mut depth: usize = 0;
-    loop {
-        if at == 0 {
-            if depth == 0 {
-                return put_bytes(out, p, b"]\n");
-            }
-            depth -= 1;
-            let w = waiting[depth];
-            let block = w.block;
-            let e = elements[block];
-            if has_else(e, w) {
-                p = put_bytes(out, p, b"]\n[else\n");
-                waiting[depth] = Waiting::new(block, true);
-                depth += 1;
-                at = e.inverse;
-            } else {
-                p = put_bytes(out, p, b"]\n]\n");
-                at = e.next;
-            }
-        } else {
-            let e = elements[at];
-            let x = e.element;
-            p = write_element(out, p, text, words, e);
-            if has_body(x) {
-                waiting[depth] = Waiting::new(at, false);
-                depth += 1;
-                at = e.template;
-            } else {
-                at = e.next;
-            }
-        }
+    if more {
+        return put_bytes(out, at, b"]\n[else\n");
     }
+    put_bytes(out, at, b"]\n]\n")
 }
 
-// Measures, and writes what fits.
+// How many blocks wait, when one more does or not.
+fn deeper(depth: usize, more: bool) -> usize
+    requires { ⌜ depth < 8193 ⌝ }
+    ensures { λ r. ⌜ r ≡ deeper depth more ⌝ }
+{
+    if more {
+        return depth + 1;
+    }
+    depth
+}
+
+// What comes after an element's opening: its body, if it has one.
+fn link_inside(e: Element, more: bool) -> usize
+    ensures { λ r. ⌜ r ≡ linkInside e more ⌝ }
+{
+    if more {
+        return e.template;
+    }
+    e.next
+}
+
+// What comes after a body: the block's else, if that is still to be listed.
+fn link_behind(e: Element, more: bool) -> usize
+    ensures { λ r. ⌜ r ≡ linkBehind e more ⌝ }
+{
+    if more {
+        return e.inverse;
+    }
+    e.next
+}
+
+// Goes from element to element, and back to the block that waits where a body ends: once from the
+// end of the output on, where nothing is stored, to measure; and again to write what fits. One loop
+// does both, since the store is too big to be handed on.
 pub(crate) fn list(
     elements: [Element; Element::LIMIT],
     first: usize,
@@ -331,10 +328,41 @@ pub(crate) fn list(
     requires { ⌜ Good (now text) (now words) × Stored (now text) (now words) elements first ⌝ }
     ensures { λ r. ⌜ ((b : Body) → Holds (now (text .entry)) (now (words .entry)) elements first b → AnswerIs (fit (length (now (out .entry))) (write b)) (now (out .entry)) (now (out .exit)) r) ⌝ }
 {
-    let n = write_all(elements, first, text, words, &mut out[0..0]);
-    if out.len() < n {
-        return Answer::Refused(14, n);
+    let mut waiting = [Waiting::EMPTY; Element::LIMIT];
+    let mut measured = false;
+    let end = out.len();
+    let mut p = put_bytes(out, end, b"[template\n");
+    let mut at = first;
+    let mut depth: usize = 0;
+    loop {
+        if at > 0 {
+            let e = elements[at];
+            let more = has_body(e);
+            p = write_element(out, p, text, words, e);
+            waiting[depth] = Waiting::new(at, false);
+            depth = deeper(depth, more);
+            at = link_inside(e, more);
+        } else if depth > 0 {
+            depth -= 1;
+            let w = waiting[depth];
+            let block = w.block;
+            let e = elements[block];
+            let more = has_else(e, w);
+            p = write_end(out, p, more);
+            waiting[depth] = Waiting::new(block, true);
+            depth = deeper(depth, more);
+            at = link_behind(e, more);
+        } else {
+            p = put_bytes(out, p, b"]\n");
+            if measured {
+                return Answer::Listed(p);
+            }
+            if end < p - end {
+                return Answer::Refused(14, p - end);
+            }
+            measured = true;
+            p = put_bytes(out, 0, b"[template\n");
+            at = first;
+        }
     }
-    let m = write_all(elements, first, text, words, out);
-    Answer::Listed(m)
 }

@@ -6,16 +6,32 @@ use crate::frame::Opened;
 use crate::visit::Act;
 ghost use mathlib.Core.Path.{_≡_};
 ghost use Prim.Native.Nat.{_≤_, _-_};
-ghost use Rattle.template.specs.Turn.{refChainHead, emptied, filled, plainPlan, beginPlan, chainPlan, templatePlan, shutPlan, revertPlan, inversePlan, closePlan, actPlan, planOf, turnOf, joinedOf, gappedOf};
+ghost use Rattle.template.specs.Turn.{headOf, refChainHead, emptied, filled, plainPlan, beginPlan, chainPlan, templatePlan, shutPlan, revertPlan, inversePlan, closePlan, actPlan, planOf, turnOf, joinedOf, gappedOf};
+
+// The newest else-if node of an open block, if it has one.
+pub enum ChainHead {
+    None,
+    Node(usize),
+}
+
+fn chain_head(head: usize) -> ChainHead
+    ensures { λ r. ⌜ r ≡ headOf head ⌝ }
+{
+    if head == 0 {
+        return ChainHead::None;
+    }
+    ChainHead::Node(head)
+}
 
 // The element that the open body belongs to: the newest else-if node, or the block.
 pub(crate) fn ref_chain_head(block: usize, head: usize) -> usize
     ensures { λ r. ⌜ r ≡ refChainHead block head ⌝ }
 {
-    if head == 0 {
+    let h = chain_head(head);
+    let ChainHead::Node(node) = h else {
         return block;
-    }
-    head
+    };
+    node
 }
 
 pub(crate) fn less(x: usize) -> usize
@@ -125,15 +141,7 @@ fn begin(o: Open, made: Element, opened: Opened) -> Plan
     Plan {
         made: made,
         owner: owner,
-        top: Frame {
-            opened: opened,
-            block: o.len,
-            head: 0,
-            first: 0,
-            last: 0,
-            chain: false,
-            inverted: false,
-        },
+        top: Frame::new(opened, o.len),
         put: top,
         slot: o.depth,
         depth: o.depth + 1,
@@ -308,9 +316,10 @@ pub(crate) fn turn_of(closing: bool, head: usize, act: Act) -> Turn
     ensures { λ r. ⌜ r ≡ turnOf closing head act ⌝ }
 {
     if closing {
-        if head == 0 {
+        let h = chain_head(head);
+        let ChainHead::Node(_) = h else {
             return Turn::Set;
-        }
+        };
         return Turn::Revert;
     }
     Turn::Act(act)

@@ -30,12 +30,12 @@ use json_path::span::span_count;
 use support::bytes::part;
 use support::position::Place;
 use support::position::line_col;
-use support::str::ends_with_empty_line;
-use support::str::starts_with_empty_line;
 ghost use mathlib.Core.Path.{_≡_};
 ghost use mathlib.Core.List.{List};
 ghost use mathlib.Core.Bool.{Bool, true, false, _&&_, _||_, not};
 ghost use Prim.Native.Nat.{ℕ, _+_, _≤_, _<_};
+ghost use lib.Dec.{eqb};
+ghost use lib.ListN.{length, drop};
 ghost use Rattle.support.specs.Bytes.{Bytes, if, isEmpty};
 ghost use Rattle.support.specs.TextRules.{startsWithEmptyLine};
 ghost use Rattle.json_path.specs.Span.{spanCount};
@@ -44,7 +44,8 @@ ghost use Rattle.template.specs.Checks.{maxSpans};
 ghost use Rattle.template.specs.Step.{afterGap, standalone};
 ghost use Rattle.template.specs.Element.{Good, newElement};
 ghost use Rattle.template.specs.Visit.{stageMeans, VisitIs};
-ghost use Rattle.template.specs.Visiting.{KindIs, TagStepIs, AdvanceIs, frontOf, rawFront, gapText, textElement, textStep, trimOf, helperOf, decoratorOf, CutIs, LineIs, StageIs, ElementIs, BeginIs, ActIs, IndentIs, RefusalIs};
+ghost use Rattle.template.specs.Lines.{StartsAre, LinesAre};
+ghost use Rattle.template.specs.Visiting.{SpanFits, KindIs, TagStepIs, AdvanceIs, frontOf, rawFront, gapText, textElement, textStep, trimOf, helperOf, decoratorOf, CutIs, LineIs, StageIs, ElementIs, BeginIs, ActIs, IndentIs, RefusalIs};
 
 pub struct Options {
     pub prevent_indent: bool,
@@ -306,27 +307,35 @@ fn raw_block_text(text: &[u8], words: &[u32], v: View, s: Span, here: Here) -> V
 }
 
 // An empty line starts after the tag, or nothing at all follows and it is no partial.
-fn with_trailing_newline(continuation: &[u8], is_partial: bool) -> bool
-    ensures { λ r. ⌜ r ≡ (startsWithEmptyLine (now (continuation .entry)) || (isEmpty (now (continuation .entry)) && not «is_partial»)) ⌝ }
+fn with_trailing_newline(text: &[u8], starts: &[bool], end: usize, is_partial: bool) -> bool
+    requires { ⌜ StartsAre (now text) (now starts) ⌝ ∗ ⌜ end ≤ length (now text) ⌝ }
+    ensures { λ r. ⌜ r ≡ (startsWithEmptyLine (drop end (now (text .entry))) || (isEmpty (drop end (now (text .entry))) && not «is_partial»)) ⌝ }
 {
-    if starts_with_empty_line(continuation) {
+    if starts[end] {
         return true;
     }
-    if continuation.len() == 0 {
+    if end == text.len() {
         return !is_partial;
     }
     false
 }
 
 // And an empty line ends before it.
-fn process_standalone_statement(text: &[u8], s: Span, is_partial: bool) -> bool
+fn process_standalone_statement(
+    text: &[u8],
+    starts: &[bool],
+    ends: &[bool],
+    s: Span,
+    is_partial: bool,
+) -> bool
+    requires { ⌜ LinesAre (now text) (now starts) (now ends) ⌝ ∗ ⌜ SpanFits (now text) s ⌝ }
     ensures { λ r. ⌜ r ≡ standalone (now (text .entry)) «is_partial» s ⌝ }
 {
-    let continuation = part(text, s.end, text.len());
-    if !with_trailing_newline(continuation, is_partial) {
+    if !with_trailing_newline(text, starts, s.end, is_partial) {
         return false;
     }
-    ends_with_empty_line(part(text, 0, s.start))
+    let start = s.start;
+    ends[start]
 }
 
 // How the last text is trimmed: by a left tilde, or by the standalone test.
@@ -342,21 +351,37 @@ fn trim_of(left: bool, cut: bool) -> Back
     Back::Kept
 }
 
-fn comment(text: &[u8], words: &[u32], o: Options, v: View, s: Span, gap: bool, here: Here) -> Visit
-    requires { ⌜ 19 ≤ s .tag ⌝ ∗ ⌜ s .tag ≤ 20 ⌝ ∗ ⌜ s .number < maxSpans ⌝ }
-    ensures { λ r. ⌜ KindIs (now (text .entry)) (now (words .entry)) o v s gap here r ⌝ }
+fn comment_of(s: Span, place: Place) -> Element
+    ensures { λ r. ⌜ r ≡ newElement (TemplateElement.Comment (record { start = s .start; end = s .end; compact = eqb (s .tag) 19 })) place ⌝ }
 {
-    let m = v.marks;
-    let g = m.stage;
-    let standalone = process_standalone_statement(text, s, o.is_partial);
-    let e = Element::new(
+    Element::new(
         TemplateElement::Comment(Comment {
             start: s.start,
             end: s.end,
             compact: s.tag == 19,
         }),
-        here.place,
-    );
+        place,
+    )
+}
+
+fn comment(
+    text: &[u8],
+    starts: &[bool],
+    ends: &[bool],
+    words: &[u32],
+    o: Options,
+    v: View,
+    s: Span,
+    gap: bool,
+    here: Here,
+) -> Visit
+    requires { ⌜ 19 ≤ s .tag ⌝ ∗ ⌜ s .tag ≤ 20 ⌝ ∗ ⌜ s .number < maxSpans ⌝ ∗ ⌜ LinesAre (now text) (now starts) (now ends) ⌝ ∗ ⌜ SpanFits (now text) s ⌝ }
+    ensures { λ r. ⌜ KindIs (now (text .entry)) (now (words .entry)) o v s gap here r ⌝ }
+{
+    let m = v.marks;
+    let g = m.stage;
+    let standalone = process_standalone_statement(text, starts, ends, s, o.is_partial);
+    let e = comment_of(s, here.place);
     step_as(
         gap,
         gap_of(words, m, s, here.place),
@@ -490,6 +515,8 @@ fn line_mark(tag: u32, standalone: bool, line: bool) -> bool
 
 fn step_of(
     text: &[u8],
+    starts: &[bool],
+    ends: &[bool],
     words: &[u32],
     o: Options,
     v: View,
@@ -498,12 +525,12 @@ fn step_of(
     gap: bool,
     here: Here,
 ) -> Visit
-    requires { ⌜ 5 ≤ s .tag ⌝ ∗ ⌜ s .tag ≤ 18 ⌝ }
+    requires { ⌜ 5 ≤ s .tag ⌝ ∗ ⌜ s .tag ≤ 18 ⌝ ∗ ⌜ LinesAre (now text) (now starts) (now ends) ⌝ ∗ ⌜ SpanFits (now text) s ⌝ }
     ensures { λ r. ⌜ TagStepIs (now (text .entry)) (now (words .entry)) o v s x gap here r ⌝ }
 {
     let m = v.marks;
     let g = m.stage;
-    let standalone = process_standalone_statement(text, s, o.is_partial);
+    let standalone = process_standalone_statement(text, starts, ends, s, o.is_partial);
     let line = but_not(m.trim_line_required, gap);
     let mark = but_not(standalone, x.omit_pre_ws);
     let indent = is_indented(s.tag, o.prevent_indent, x.omit_pre_ws);
@@ -543,8 +570,18 @@ fn refusal_of(text: &[u8], tag: u32, count: usize, opened: AsName, end: AsName) 
 }
 
 // 8, 9 and 12 as met, open blocks last; 10, 11.
-fn tagged(text: &[u8], words: &[u32], o: Options, v: View, s: Span, gap: bool, here: Here) -> Visit
-    requires { ⌜ 5 ≤ s .tag ⌝ ∗ ⌜ s .tag ≤ 18 ⌝ ∗ ⌜ s .number < spanCount (now words) ⌝ }
+fn tagged(
+    text: &[u8],
+    starts: &[bool],
+    ends: &[bool],
+    words: &[u32],
+    o: Options,
+    v: View,
+    s: Span,
+    gap: bool,
+    here: Here,
+) -> Visit
+    requires { ⌜ 5 ≤ s .tag ⌝ ∗ ⌜ s .tag ≤ 18 ⌝ ∗ ⌜ s .number < spanCount (now words) ⌝ ∗ ⌜ LinesAre (now text) (now starts) (now ends) ⌝ ∗ ⌜ SpanFits (now text) s ⌝ }
     ensures { λ r. ⌜ KindIs (now (text .entry)) (now (words .entry)) o v s gap here r ⌝ }
 {
     let r = read_tag(text, words, s);
@@ -558,7 +595,7 @@ fn tagged(text: &[u8], words: &[u32], o: Options, v: View, s: Span, gap: bool, h
             if n != 0 {
                 return refused(n, s.number);
             }
-            step_of(text, words, o, v, s, x, gap, here)
+            step_of(text, starts, ends, words, o, v, s, x, gap, here)
         }
     }
 }
@@ -566,6 +603,8 @@ fn tagged(text: &[u8], words: &[u32], o: Options, v: View, s: Span, gap: bool, h
 // What is decided of a span behind 6 and 7, by its tag.
 fn visit_kind(
     text: &[u8],
+    starts: &[bool],
+    ends: &[bool],
     words: &[u32],
     o: Options,
     v: View,
@@ -573,7 +612,7 @@ fn visit_kind(
     gap: bool,
     here: Here,
 ) -> Visit
-    requires { ⌜ s .number < spanCount (now words) ⌝ ∗ ⌜ spanCount (now words) ≤ maxSpans ⌝ ∗ ⌜ (s .tag ≡ 4 → ⊥) ⌝ }
+    requires { ⌜ s .number < spanCount (now words) ⌝ ∗ ⌜ spanCount (now words) ≤ maxSpans ⌝ ∗ ⌜ (s .tag ≡ 4 → ⊥) ⌝ ∗ ⌜ LinesAre (now text) (now starts) (now ends) ⌝ ∗ ⌜ SpanFits (now text) s ⌝ }
     ensures { λ r. ⌜ KindIs (now (text .entry)) (now (words .entry)) o v s gap here r ⌝ }
 {
     let tag = s.tag;
@@ -581,15 +620,23 @@ fn visit_kind(
         1 => template(v, s),
         2 => raw_string(text, words, v, s, here),
         3 => raw_block_text(text, words, v, s, here),
-        5..=18 => tagged(text, words, o, v, s, gap, here),
-        19..=20 => comment(text, words, o, v, s, gap, here),
+        5..=18 => tagged(text, starts, ends, words, o, v, s, gap, here),
+        19..=20 => comment(text, starts, ends, words, o, v, s, gap, here),
         _ => skipped(words, v, s, gap, here),
     }
 }
 
 // The walked span at the cursor: 6, 7, and then by its tag.
-pub(crate) fn visit_span(text: &[u8], words: &[u32], o: Options, v: View, at: usize) -> Visit
-    requires { ⌜ Good (now text) (now words) ⌝ }
+pub(crate) fn visit_span(
+    text: &[u8],
+    starts: &[bool],
+    ends: &[bool],
+    words: &[u32],
+    o: Options,
+    v: View,
+    at: usize,
+) -> Visit
+    requires { ⌜ Good (now text) (now words) ⌝ ∗ ⌜ LinesAre (now text) (now starts) (now ends) ⌝ }
     ensures { λ r. ⌜ VisitIs (now (text .entry)) (now (words .entry)) o v at r ⌝ }
 {
     let n = next_span(words, at);
@@ -608,5 +655,5 @@ pub(crate) fn visit_span(text: &[u8], words: &[u32], o: Options, v: View, at: us
     }
     let before = v.here;
     let here = advance(text, before, s.start);
-    visit_kind(text, words, o, v, s, gap, here)
+    visit_kind(text, starts, ends, words, o, v, s, gap, here)
 }

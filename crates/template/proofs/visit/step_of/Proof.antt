@@ -33,8 +33,8 @@ trim-of-requires c κs = search needs
 
 act-of-requires : tie.Need-act-of-requires
 act-of-requires c κs =
-    let pre = c .before .before .before .before .before .before .before .before .before .before .before .before .pre in
-    pre
+    let pre = c .before .before .before .before .before .before .before .before .before .before .before .before .before .before .pre in
+    (pre .0, pre .1 .0)
 
 stage-of-requires : tie.Need-stage-of-requires
 stage-of-requires c κs = search needs
@@ -47,7 +47,7 @@ step-as-requires c κs = search needs
 
 returns : tie.Need-returns
 returns c =
-    let a = c .before .before .before .before .before .before .before .before .before .before .before .before .before .before .before .before .args in
+    let a = c .before .before .before .before .before .before .before .before .before .before .before .before .before .before .before .before .before .before .args in
     let gap-of = c .before .before .before .before .before .gap-of in
     let but-not = c .before .before .before .before .before .before .before .before .before .before .before .but-not in
     let process-standalone-statement = c .before .before .before .before .before .before .before .before .before .before .before .before .process-standalone-statement in

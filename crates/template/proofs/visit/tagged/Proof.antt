@@ -37,8 +37,8 @@ refused-requires-2 c κs = search needs
 
 returns : tie.Need-returns
 returns c =
-    let a = c .before .before .before .before .before .before .before .before .before .before .args in
-    let pre = c .before .before .before .before .before .before .before .before .before .before .pre in
+    let a = c .before .before .before .before .before .before .before .before .before .before .before .before .args in
+    let pre = c .before .before .before .before .before .before .before .before .before .before .before .before .pre in
     let r2 = c .before .before .before .before .before .r2 in
     let read-tag = c .before .before .before .before .before .before .before .read-tag in
     let as-name = c .before .before .before .as-name in
@@ -51,8 +51,8 @@ step-of-requires c κs = search needs
 
 returns-2 : tie.Need-returns-2
 returns-2 c =
-    let a = c .before .before .before .before .before .before .before .before .before .before .args in
-    let pre = c .before .before .before .before .before .before .before .before .before .before .pre in
+    let a = c .before .before .before .before .before .before .before .before .before .before .before .before .args in
+    let pre = c .before .before .before .before .before .before .before .before .before .before .before .before .pre in
     let r = c .before .before .before .before .before .r in
     let read-tag = c .before .before .before .before .before .before .before .read-tag in
     let fault-number = c .before .before .before .fault-number in
@@ -62,8 +62,8 @@ returns-2 c =
 
 returns-3 : tie.Need-returns-3
 returns-3 c =
-    let a = c .before .before .before .before .before .before .before .before .before .before .args in
-    let pre = c .before .before .before .before .before .before .before .before .before .before .pre in
+    let a = c .before .before .before .before .before .before .before .before .before .before .before .before .args in
+    let pre = c .before .before .before .before .before .before .before .before .before .before .before .before .pre in
     let r2 = c .before .before .before .before .before .r2 in
     let read-tag = c .before .before .before .before .before .before .before .read-tag in
     let as-name = c .before .before .before .as-name in

@@ -17,17 +17,21 @@ raw-block-text-requires : tie.Need-raw-block-text-requires
 raw-block-text-requires c κs = search needs
 
 tagged-requires : tie.Need-tagged-requires
-tagged-requires c κs = search needs
+tagged-requires c κs =
+    let pre = c .before .before .before .before .before .before .before .pre in
+    (omega (arith, c .before .if1 .left), (omega (arith, c .if2 .taken), (pre .0, pre .1 .1 .1)))
 
 comment-requires : tie.Need-comment-requires
-comment-requires c κs = search needs
+comment-requires c κs =
+    let pre = c .before .before .before .before .before .before .before .before .pre in
+    (omega (arith, c .before .if2 .left), (omega (arith, c .if3 .taken), (omega (arith, pre .0, pre .1 .0), pre .1 .1 .1)))
 
 skipped-requires : tie.Need-skipped-requires
 skipped-requires c κs =
-    let a = c .before .before .before .before .args in
-    let pre = c .before .before .before .before .pre in
+    let a = c .before .before .before .before .before .before .args in
+    let pre = c .before .before .before .before .before .before .pre in
     let m = c .before .match .rest in (
-      ⊎-elim (λ w. parts.skipped-low (a .s .tag) (w .taken) (m .0 .0 .1) (m .0 .1) (m .1) (pre .1 .1))
+      ⊎-elim (λ w. parts.skipped-low (a .s .tag) (w .taken) (m .0 .0 .1) (m .0 .1) (m .1) (pre .1 .1 .0))
           (λ w. let h = w .2 in kinds.kind-skipped (a .s .tag) (omega arith)) (c .if1 .came),
       pre .0,
     )

@@ -17,7 +17,7 @@ enum-told c = search needs
 
 returns : tie.Need-returns
 returns c =
-    let a = c .before .before .before .before .before .args in
+    let a = c .before .before .before .before .before .before .before .args in
     laws.visit-end (a .text .now) (a .words .now) (a .o) (a .v) (a .at)
     (json.next-none (c .enum-told .given .1) (c .before .before .next-span .ensures))
 
@@ -26,7 +26,7 @@ refused-requires c κs = search needs
 
 returns-2 : tie.Need-returns-2
 returns-2 c =
-    let a = c .before .before .before .before .before .before .before .before .before .before .before .args in
+    let a = c .before .before .before .before .before .before .before .before .before .before .before .before .before .args in
     let n = c .before .before .before .before .before .before .n in
     let next-span = c .before .before .before .before .before .before .before .before .next-span in
     let w = json.next-found (n .given .1) (next-span .ensures) in
@@ -43,7 +43,7 @@ refused-requires-2 c κs = search needs
 
 returns-3 : tie.Need-returns-3
 returns-3 c =
-    let a = c .before .before .before .before .before .before .before .before .before .before .before .before .before .before .args in
+    let a = c .before .before .before .before .before .before .before .before .before .before .before .before .before .before .before .before .args in
     let n = c .before .before .before .before .before .before .before .before .before .n in
     let next-span = c .before .before .before .before .before .before .before .before .before .before .before .next-span in
     let kept-gap = c .before .before .before .kept-gap in
@@ -58,21 +58,21 @@ visit-kind-requires : tie.Need-visit-kind-requires
 visit-kind-requires c κs =
     let n = c .before .before .before .before .before .before .before .before .before .before .n in
     let next-span = c .before .before .before .before .before .before .before .before .before .before .before .before .next-span in
-    let pre = c .before .before .before .before .before .before .before .before .before .before .before .before .before .before .before .pre in
+    let pre = c .before .before .before .before .before .before .before .before .before .before .before .before .before .before .before .before .before .pre in
     let w = json.next-found (n .given .1) (next-span .ensures) in
-    (w .inside, (pre .few, w .noEscape))
+    (w .inside, (pre .0 .few, (w .noEscape, (pre .1, laws.walked-fits (pre .0) w))))
 
 returns-4 : tie.Need-returns-4
 returns-4 c =
-    let a = c .before .before .before .before .before .before .before .before .before .before .before .before .before .before .before .before .args in
+    let a = c .before .before .before .before .before .before .before .before .before .before .before .before .before .before .before .before .before .before .args in
     let n = c .before .before .before .before .before .before .before .before .before .before .before .n in
     let next-span = c .before .before .before .before .before .before .before .before .before .before .before .before .before .next-span in
     let kept-gap = c .before .before .before .before .before .kept-gap in
     let nests = c .before .before .before .before .nests in
-    let pre = c .before .before .before .before .before .before .before .before .before .before .before .before .before .before .before .before .pre in
+    let pre = c .before .before .before .before .before .before .before .before .before .before .before .before .before .before .before .before .before .before .pre in
     let if2 = c .before .before .before .if2 in
     let w = json.next-found (n .given .1) (next-span .ensures) in
-    laws.visit-kind (a .text .now) (a .words .now) (a .o) (a .v) (a .at) w (omega arith) (kept-gap .ensures) (nests .ensures) pre (if2 .left)
+    laws.visit-kind (a .text .now) (a .words .now) (a .o) (a .v) (a .at) w (omega arith) (kept-gap .ensures) (nests .ensures) (pre .0) (if2 .left)
     (c .before .advance .ensures) (c .visit-kind .result) (c .visit-kind .ensures)
 
 pub visit-span-spec : {M : Type 1} → statement M

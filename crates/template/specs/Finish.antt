@@ -1,0 +1,44 @@
+-- The end of the walk: whether it is unfinished, the text that is left, and the answer.
+use Prim.Native.Nat.{ℕ}
+use mathlib.Core.Path.{_≡_}
+use mathlib.Core.List.{List}
+use mathlib.Core.Bool.{Bool, _&&_, _||_, not}
+use lib.Dec.{ltb}
+use lib.ListN.{length}
+use Rattle.support.specs.Bytes.{Bytes, part}
+use Rattle.support.specs.Position.{placeOf, lineCol}
+use Rattle.json_path.specs.Span.{spanCount}
+use Rattle.listing.specs.Listing.{listing}
+use Rattle.template.specs.Result.{Result, _>>=_}
+use Rattle.template.specs.Nests.{isFilling}
+use Rattle.template.specs.Walk.{readSpans}
+use Rattle.template.specs.Compile.{fit}
+use Rattle.template.specs.Element.{newElement}
+use Rattle.template.specs.Visit.{stageMeans}
+use Rattle.template.specs.declared.element.Front.the-variants as Front
+use Rattle.template.specs.declared.element.Back.the-variants as Back
+use Rattle.template.specs.declared.element.RawString.{RawString}
+use Rattle.template.specs.declared.element.TemplateElement.the-variants as E
+use Rattle.template.specs.declared.element.Element.{Element}
+use Rattle.template.specs.declared.frame.Marks.{Marks}
+use Rattle.template.specs.declared.visit.Here.{Here}
+use Rattle.template.specs.declared.visit.Options.{Options}
+
+-- 7 at the end of the list, by the marks and the bodies around
+abbrev pub unfinishedAt : Bytes → Marks → ℕ → Bool
+unfinishedAt text m depth = not (isFilling (stageMeans (m .stage))) || (ltb 0 depth || (ltb (m .«end_pos») (length text) && not (m .started)))
+
+-- the text after the last previous end, with no escapes
+abbrev pub restText : Bytes → List ℕ → Marks → RawString
+restText text words m = record { start = m .«end_pos»; end = length text; escapes = spanCount words; front = Front.Kept; back = Back.Kept }
+
+-- r is its element
+pub record RestIs (text : Bytes) (words : List ℕ) (m : Marks) (h : Here) (r : Element) : Type 0 where
+  pub new : r ≡ newElement (E.RawString (restText text words m)) (r .place)
+  pub place : placeOf (r .place) ≡ lineCol (placeOf (h .place)) (part text (h .at) (m .«end_pos»))
+
+-- what the walk answers
+abbrev pub walkAnswer : Bytes → List ℕ → Options → ℕ → Result Bytes
+walkAnswer text words o room = do
+  r ← readSpans text words (o .«prevent_indent») (o .«is_partial»)
+  fit room (listing r)

@@ -1,0 +1,222 @@
+// The walk: it holds the store.
+use crate::compile::Answer;
+use crate::element::Back;
+use crate::element::Element;
+use crate::element::Front;
+use crate::element::RawString;
+use crate::element::TemplateElement;
+use crate::frame::Frame;
+use crate::frame::Marks;
+use crate::list::list;
+use crate::reason::is_filling;
+use crate::turn::Gapped;
+use crate::turn::Joined;
+use crate::turn::Open;
+use crate::turn::Plan;
+use crate::turn::Turn;
+use crate::turn::join;
+use crate::turn::less;
+use crate::turn::plan_of;
+use crate::turn::ref_chain_head;
+use crate::turn::take_gap;
+use crate::turn::turn_of;
+use crate::visit::Act;
+use crate::visit::Here;
+use crate::visit::Options;
+use crate::visit::Step;
+use crate::visit::View;
+use crate::visit::Visit;
+use crate::visit::visit_span;
+use expression::parameter::AsName;
+use json_path::span::span_count;
+use support::bytes::part;
+use support::position::Place;
+use support::position::line_col;
+ghost use mathlib.Core.Path.{_≡_};
+ghost use lib.ListN.{length};
+ghost use Rattle.template.specs.Element.{Good};
+ghost use Rattle.template.specs.Answers.{AnswerIs};
+ghost use Rattle.template.specs.Lines.{LinesAre};
+ghost use Rattle.template.specs.Turn.{LookIs};
+ghost use Rattle.template.specs.Finish.{unfinishedAt, RestIs, walkAnswer};
+
+// A turn's visit; while a block closes, nothing is visited.
+fn look(
+    text: &[u8],
+    starts: &[bool],
+    ends: &[bool],
+    words: &[u32],
+    o: Options,
+    v: View,
+    at: usize,
+    closing: bool,
+) -> Visit
+    requires { ⌜ Good (now text) (now words) ⌝ ∗ ⌜ LinesAre (now text) (now starts) (now ends) ⌝ }
+    ensures { λ r. ⌜ LookIs (now (text .entry)) (now (words .entry)) o v at closing r ⌝ }
+{
+    if closing {
+        let m = v.marks;
+        let h = v.here;
+        return Visit::Step(Step {
+            gapped: false,
+            gap: Element::EMPTY,
+            back: Back::Kept,
+            act: Act::Skip,
+            marks: m,
+            here: h,
+            next: at,
+        });
+    }
+    visit_span(text, starts, ends, words, o, v, at)
+}
+
+// 7 at the end of the list.
+fn unfinished(text: &[u8], m: Marks, depth: usize) -> bool
+    ensures { λ r. ⌜ r ≡ unfinishedAt (now (text .entry)) m depth ⌝ }
+{
+    let g = m.stage;
+    if is_filling(g) {
+        if 0 < depth {
+            return true;
+        }
+        return m.end_pos < text.len() && !m.started;
+    }
+    true
+}
+
+// The text after the last previous end.
+fn rest_of(text: &[u8], words: &[u32], m: Marks, h: Here) -> Element
+    ensures { λ r. ⌜ RestIs (now (text .entry)) (now (words .entry)) m h r ⌝ }
+{
+    let from = h.place;
+    Element::new(
+        TemplateElement::RawString(RawString {
+            start: m.end_pos,
+            end: text.len(),
+            escapes: span_count(words),
+            front: Front::Kept,
+            back: Back::Kept,
+        }),
+        line_col(from, part(text, h.at, m.end_pos)),
+    )
+}
+
+// Each turn: what is visited, the gap, the trim of the last text, the act. At the end of the list the text
+// that is left joins the root's body. The store and the frames are written at every turn, with what was
+// there where nothing changes.
+pub(crate) fn walk(
+    text: &[u8],
+    starts: &[bool],
+    ends: &[bool],
+    words: &[u32],
+    o: Options,
+    out: &mut [u8],
+) -> Answer
+    requires { ⌜ Good (now text) (now words) ⌝ ∗ ⌜ LinesAre (now text) (now starts) (now ends) ⌝ }
+    ensures { λ r. ⌜ AnswerIs (walkAnswer (now (text .entry)) (now (words .entry)) o (length (now (out .entry)))) (now (out .entry)) (now (out .exit)) r ⌝ }
+{
+    let mut elements = [Element::EMPTY; Element::LIMIT];
+    let mut levels = [Frame::EMPTY; Frame::LIMIT];
+    let mut top = Frame::EMPTY;
+    let mut marks = Marks::FIRST;
+    let mut here = Here {
+        place: Place { line: 1, column: 1 },
+        at: 0,
+    };
+    let mut depth: usize = 0;
+    let mut len: usize = 1;
+    let mut count: usize = 0;
+    let mut closing = false;
+    let mut at: usize = 0;
+    loop {
+        let b = top.block;
+        let block = elements[b];
+        let opened = top.opened;
+        let name = block.name();
+        let v = View {
+            marks: marks,
+            opened: opened,
+            inverted: top.inverted,
+            name: name,
+            count: count,
+            here: here,
+        };
+        let seen = look(text, starts, ends, words, o, v, at, closing);
+        match seen {
+            Visit::Refused(r) => {
+                return Answer::Refused(r.number, r.place);
+            }
+            Visit::End => {
+                if unfinished(text, marks, depth) {
+                    return Answer::Refused(7, span_count(words));
+                }
+                let rest = rest_of(text, words, marks, here);
+                let rg = take_gap(marks.end_pos < text.len(), rest, len);
+                let rm = rg.made;
+                elements[len] = rm;
+                let rl = top.last;
+                let rx = elements[rl];
+                let rj = join(top, rx, rg.join);
+                let rz = rj.last;
+                elements[rl] = rz;
+                let rt = rj.top;
+                return list(elements, rt.first, text, words, out);
+            }
+            Visit::Step(s) => {
+                let ge = s.gap;
+                let g = take_gap(s.gapped, ge, len);
+                let made = g.made;
+                elements[len] = made;
+                len = g.len;
+                let gl = top.last;
+                let gx = elements[gl];
+                let gj = join(top, gx, g.join);
+                let gz = gj.last;
+                elements[gl] = gz;
+                top = gj.top;
+                let back = s.back;
+                let tl = top.last;
+                let tx = elements[tl];
+                elements[tl] = tx.trim_end(back);
+                let w = ref_chain_head(top.block, top.head);
+                let owner = elements[w];
+                let u = less(depth);
+                let below = levels[u];
+                let act = s.act;
+                let t = turn_of(closing, top.head, act);
+                let p = plan_of(
+                    t,
+                    Open {
+                        top: top,
+                        below: below,
+                        owner: owner,
+                        depth: depth,
+                        len: len,
+                        count: count,
+                    },
+                );
+                let pm = p.made;
+                elements[len] = pm;
+                let po = p.owner;
+                elements[w] = po;
+                let slot = p.slot;
+                let pp = p.put;
+                levels[slot] = pp;
+                let pt = p.top;
+                let pl = pt.last;
+                let px = elements[pl];
+                let pj = join(pt, px, p.join);
+                let pz = pj.last;
+                elements[pl] = pz;
+                top = pj.top;
+                depth = p.depth;
+                len = p.len;
+                count = p.count;
+                closing = p.closing;
+                marks = s.marks;
+                here = s.here;
+                at = s.next;
+            }
+        }
+    }
+}
