@@ -28,18 +28,13 @@ def record(options, words, text):
     return head + text
 
 
-class Gen:
-    def __init__(self, rng):
-        self.r = rng
+class Writer:
+    """A text and its spans, made together."""
+
+    def __init__(self):
         self.t = bytearray()
         self.s = []
-        self.depth = 0
-        self.budget = rng.choice([3, 6, 10, 20, 40])
-        self.fault = rng.random() < 0.08          # may write faulty literals, names
-        self.crlf = rng.random() < 0.25
-        self.tilde = rng.choice([0, 0.05, 0.25, 0.5])
 
-    # ---- parts
     def put(self, s):
         self.t += s.encode() if isinstance(s, str) else s
 
@@ -54,6 +49,17 @@ class Gen:
         sp = self.open(tag)
         self.put(s)
         self.close(sp)
+
+
+class Gen(Writer):
+    def __init__(self, rng):
+        super().__init__()
+        self.r = rng
+        self.depth = 0
+        self.budget = rng.choice([3, 6, 10, 20, 40])
+        self.fault = rng.random() < 0.08          # may write faulty literals, names
+        self.crlf = rng.random() < 0.25
+        self.tilde = rng.choice([0, 0.05, 0.25, 0.5])
 
     def chance(self, p):
         return self.r.random() < p
