@@ -48,7 +48,8 @@ def literal_over(kept):
 
 
 class Seen:
-    """A difference with the walk at the refused span."""
+    """A difference with the walk at the refused span. Lost, where the reasons that come before do not let it
+    be refused by this number."""
 
     def __init__(self, d):
         self.d, self.number = d, d.number
@@ -56,6 +57,8 @@ class Seen:
         at_end = self.span is None
         self.early_start = not at_end and self.span.start < self.walk.end
         self.fault = end_of_list_fault(self.walk) if at_end else nesting_fault(self.walk, self.span)
+        if self.early_start != (d.number == 6) or d.number != 6 and (self.fault is not None) != (d.number == 7):
+            raise Lost
         self.before = d.turn is not None and d.turn < self.walk.turn
         self.here = d.turn is not None and d.turn == self.walk.turn
         self.panics = d.stopped == "panic"
@@ -80,7 +83,7 @@ class Seen:
         return self.span.tag in (1, 3) or self.walk.tilde and self.span.tag != 2
 
     def seven(self, *faults):
-        return self.number == 7 and not self.early_start and self.fault in faults
+        return self.number == 7 and self.fault in faults
 
 
 def d13_limits(s):
@@ -96,7 +99,7 @@ def d15_a_limit_hides_an_error(s):
 
 
 def d18_6_where_the_crate_panics(s):
-    return s.number == 6 and s.early_start and not s.crate_lets_start_pass() and s.panics_here
+    return s.number == 6 and not s.crate_lets_start_pass() and s.panics_here
 
 
 def d19_7_where_the_crate_panics(s):
@@ -112,7 +115,7 @@ def d21_an_empty_escape_at_the_end_of_its_text(s):
 
 
 def d22_starts_before_the_previous_end(s):
-    return s.number == 6 and s.early_start and s.crate_lets_start_pass()
+    return s.number == 6 and s.crate_lets_start_pass()
 
 
 def d23_a_block_open_at_the_end(s):
@@ -160,7 +163,7 @@ def d33_escapes_that_the_crate_lets_pass(s):
 
 
 def d35_7_before_8_to_11(s):
-    return s.number == 7 and s.fault is not None and s.here and (s.d.error or s.panics and s.unread)
+    return s.number == 7 and s.here and (s.d.error or s.panics and s.unread)
 
 
 def d37_an_end_tag_of_a_block_without_a_body(s):
@@ -203,6 +206,20 @@ def d5_spans_options_and_text_as_plain_numbers(d):
 
 def d13_limits_before_the_walk(d):
     return d.number in (2, 3) and early(d.options, d.words, d.text) == (d.number, d.place)
+
+
+def same_error(d):
+    """Whether both sides refuse by the same number, at the same span and, where the crate says it, the same line
+    and column, and no reason that comes before holds there."""
+    if d.error is None or d.error != d.number or d.place >= len(d.spans):
+        return False
+    span = d.spans[d.place]
+    placed = d.error_place == (b"-" if d.number == 9 else d.line_column(span.start))
+    try:
+        s = Seen(d)
+    except Lost:
+        return False
+    return placed and s.here and d.pair == (span.tag, span.start, span.end)
 
 
 def class_of(d):

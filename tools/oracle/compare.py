@@ -66,14 +66,6 @@ class Difference:
         line = before[before.rfind(b"\n") + 1 :]
         return b"%d:%d" % (1 + before.count(b"\n"), 1 + len(line.decode()))
 
-    def same_error(self):
-        """The same number, at the same span, and there the crate's line and column, if it has any."""
-        if self.error is None or self.error != self.number or self.place >= len(self.spans):
-            return False
-        s = self.spans[self.place]
-        placed = self.error_place == (b"-" if self.number == 9 else self.line_column(s.start))
-        return placed and self.pair == (s.tag, s.start, s.end)
-
 
 class Comparison:
     def __init__(self, args):
@@ -118,7 +110,7 @@ class Comparison:
     def differing(self, index, d):
         if d.crate == b"unnested\n":
             self.counts["not compared: no pairs"] += 1
-        elif d.same_error():
+        elif classes.same_error(d):
             self.counts["same: %d" % d.number] += 1
         else:
             name = classes.class_of(d)

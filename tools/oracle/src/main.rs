@@ -53,8 +53,8 @@ fn cards(input: &mut impl Read, output: &mut impl Write) -> io::Result<()> {
 
 fn values(input: &mut impl Read, output: &mut impl Write) -> io::Result<()> {
     while let Some(length) = number(input) {
-        let listing = String::from_utf8(bytes(input, length as usize)?).expect("a listing is UTF-8");
-        put(output, by_value(&listing).as_bytes())?;
+        let listing = String::from_utf8(bytes(input, length as usize)?);
+        put(output, listing.map_or("no UTF-8\n".into(), |l| by_value(&l)).as_bytes())?;
     }
     Ok(())
 }
