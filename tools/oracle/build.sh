@@ -14,9 +14,9 @@ crate=$BUILD_DIR/oracle-crate
 mkdir -p "$crate/src/json" "$BUILD_DIR/.cargo"
 
 sed "s|@TOOLS@|$here/..|" "$here/Cargo.toml.in" > "$crate/Cargo.toml"
-cp "$here"/src/*.rs "$crate/src/"
-cp "$SOURCE_DIR/json/path.rs" "$crate/src/json/"
-cp "$SOURCE_DIR/support.rs" "$SOURCE_DIR/error.rs" "$crate/src/"
+cp -f "$here"/src/*.rs "$crate/src/"
+cp -f "$SOURCE_DIR/json/path.rs" "$crate/src/json/"
+cp -f "$SOURCE_DIR/support.rs" "$SOURCE_DIR/error.rs" "$crate/src/"
 # The patch to template.rs: two added lines, which count the turns of compile2's loop. Nothing in
 # compile2 reads the count.
 sed -e 's/^                let rule = pair\.as_rule();$/&\n                crate::walks(\&pair);/' \

@@ -24,7 +24,10 @@ unsafe extern "C" {
 
 /// The thread's processor time so far, in microseconds.
 fn now() -> f64 {
-    let mut t = Timespec { seconds: 0, nanoseconds: 0 };
+    let mut t = Timespec {
+        seconds: 0,
+        nanoseconds: 0,
+    };
     // SAFETY: CLOCK_THREAD_CPUTIME_ID of Linux is 3, and the struct is C's timespec on x86-64
     assert_eq!(unsafe { clock_gettime(3, &mut t) }, 0);
     t.seconds as f64 * 1e6 + t.nanoseconds as f64 / 1e3
@@ -44,13 +47,22 @@ fn time(mut call: impl FnMut()) -> f64 {
 /// The crate from ready pairs: to a tree, to a listing, and the listing; None where the list is no pairs.
 fn crate_side(c: &Card) -> Option<(f64, f64, String)> {
     let text: &'static str = Box::leak(String::from_utf8(c.text.clone()).ok()?.into_boxed_str());
-    let spans: Vec<[u32; 3]> = c.words.chunks_exact(3).map(|w| w.try_into().unwrap()).collect();
+    let spans: Vec<[u32; 3]> = c
+        .words
+        .chunks_exact(3)
+        .map(|w| w.try_into().unwrap())
+        .collect();
     if !oracle::prepare_pairs(text, &spans) {
         return None;
     }
     let listing = || {
         let mut o = String::new();
-        oracle::write(&oracle::compile2(text, c.options).ok().expect("an accepted card"), &mut o);
+        oracle::write(
+            &oracle::compile2(text, c.options)
+                .ok()
+                .expect("an accepted card"),
+            &mut o,
+        );
         o
     };
     let tree = time(|| {
@@ -69,10 +81,18 @@ fn port_side(c: &Card) -> (f64, String) {
         out.resize(length, 0);
     }
     let us = time(|| {
-        black_box(compile2(black_box(&c.text), black_box(&c.words), c.options, &mut out));
+        black_box(compile2(
+            black_box(&c.text),
+            black_box(&c.words),
+            c.options,
+            &mut out,
+        ));
     });
     match compile2(&c.text, &c.words, c.options, &mut out) {
-        Answer::Listed(n) => (us, String::from_utf8(out[..n].to_vec()).expect("a listing is UTF-8")),
+        Answer::Listed(n) => (
+            us,
+            String::from_utf8(out[..n].to_vec()).expect("a listing is UTF-8"),
+        ),
         refused => (us, format!("{refused:?}")),
     }
 }
@@ -82,9 +102,11 @@ fn bench(path: &str, without_port: bool) {
     let mut file = std::fs::File::open(path).expect(path);
     let c = Card::read(&mut file).expect(path).expect("a record");
     let of_crate = crate_side(&c);
-    let (tree, listed) = of_crate.as_ref().map_or(("-".into(), "-".into()), |(t, l, _)| {
-        (format!("{t:.1}"), format!("{l:.1}"))
-    });
+    let (tree, listed) = of_crate
+        .as_ref()
+        .map_or(("-".into(), "-".into()), |(t, l, _)| {
+            (format!("{t:.1}"), format!("{l:.1}"))
+        });
     let mut bytes = of_crate.as_ref().map_or(0, |(_, _, l)| l.len());
     let mut of_port = "-".to_owned();
     if !without_port {
@@ -92,7 +114,10 @@ fn bench(path: &str, without_port: bool) {
         of_port = format!("{us:.1}");
         bytes = listing.len();
         if let Some((_, _, l)) = &of_crate {
-            assert!(oracle::by_value(&listing) == *l, "{name}: the two trees differ");
+            assert!(
+                oracle::by_value(&listing) == *l,
+                "{name}: the two trees differ"
+            );
         }
     }
     let (text, spans) = (c.text.len(), c.words.len() / 3);
@@ -105,6 +130,9 @@ fn main() {
     if without_port {
         files.remove(0);
     }
-    println!("{:28} {:>6} {:>6} {:>9} {:>11} {:>11} {:>11}", "card", "text", "spans", "listing", "crate tree", "listing", "port");
+    println!(
+        "{:28} {:>6} {:>6} {:>9} {:>11} {:>11} {:>11}",
+        "card", "text", "spans", "listing", "crate tree", "listing", "port"
+    );
     with_stack(move || files.iter().for_each(|f| bench(f, without_port)));
 }

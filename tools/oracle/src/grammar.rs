@@ -132,7 +132,12 @@ pub fn nest(spans: &[[u32; 3]]) -> Option<Vec<Node>> {
             *at += 1;
             let kids = take(spans, at, start, end)?;
             position = end;
-            nodes.push(Node { rule: BY_TAG[tag as usize], start, end, kids });
+            nodes.push(Node {
+                rule: BY_TAG[tag as usize],
+                start,
+                end,
+                kids,
+            });
         }
         Some(nodes)
     }
@@ -158,7 +163,9 @@ fn play<'i>(
 
 /// The pairs of these nodes over a text.
 pub fn pairs<'i>(text: &'i str, nodes: &[Node]) -> Result<Pairs<'i, Rule>, Error<Rule>> {
-    pest::state(text, |s| s.sequence(|s| play(s, text, nodes, 0, text.len())))
+    pest::state(text, |s| {
+        s.sequence(|s| play(s, text, nodes, 0, text.len()))
+    })
 }
 
 /// What the parser gives next.

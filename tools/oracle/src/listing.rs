@@ -146,7 +146,10 @@ fn decorator(head: &str, place: &str, d: &DecoratorTemplate, block: bool, o: &mu
 fn elements(t: &Template, o: &mut String) {
     use TemplateElement::*;
     for (i, e) in t.elements.iter().enumerate() {
-        let place = t.mapping.get(i).map_or("-".to_owned(), |m| format!("{}:{}", m.0, m.1));
+        let place = t
+            .mapping
+            .get(i)
+            .map_or("-".to_owned(), |m| format!("{}:{}", m.0, m.1));
         match e {
             RawString(s) => form(&format!("[text {place} "), s, o),
             Comment(s) => form(&format!("[comment {place} "), s, o),
@@ -169,7 +172,9 @@ pub fn write(t: &Template, o: &mut String) {
 pub fn by_value(listing: &str) -> String {
     let mut out = String::with_capacity(listing.len());
     for line in listing.split_inclusive('\n') {
-        let kept = line.strip_prefix("[lit \"").and_then(|l| l.strip_suffix("\"]\n"));
+        let kept = line
+            .strip_prefix("[lit \"")
+            .and_then(|l| l.strip_suffix("\"]\n"));
         match kept.map(|k| unquote(k).parse::<serde_json::Value>()) {
             Some(Ok(v)) => form("[lit ", &v.to_string(), &mut out),
             Some(Err(_)) => out.push_str("[lit INVALID]\n"),

@@ -11,7 +11,10 @@ static PANIC: Mutex<String> = Mutex::new(String::new());
 /// Whether document 01's checks 1, 3 (words not in threes), 4 and 5 let the record pass: what they
 /// turn away cannot be asked of the crate.
 fn spans(options: u32, words: &[u32], text: &str) -> Option<Vec<[u32; 3]>> {
-    let spans: Vec<[u32; 3]> = words.chunks(3).map(|w| w.try_into().ok()).collect::<Option<_>>()?;
+    let spans: Vec<[u32; 3]> = words
+        .chunks(3)
+        .map(|w| w.try_into().ok())
+        .collect::<Option<_>>()?;
     let good = |&[tag, start, end]: &[u32; 3]| {
         let (start, end) = (start as usize, end as usize);
         tag <= 40 && start <= end && text.is_char_boundary(start) && text.is_char_boundary(end)
@@ -54,7 +57,12 @@ fn cards(input: &mut impl Read, output: &mut impl Write) -> io::Result<()> {
 fn values(input: &mut impl Read, output: &mut impl Write) -> io::Result<()> {
     while let Some(length) = number(input) {
         let listing = String::from_utf8(bytes(input, length as usize)?);
-        put(output, listing.map_or("no UTF-8\n".into(), |l| by_value(&l)).as_bytes())?;
+        put(
+            output,
+            listing
+                .map_or("no UTF-8\n".into(), |l| by_value(&l))
+                .as_bytes(),
+        )?;
     }
     Ok(())
 }
@@ -72,12 +80,19 @@ fn run() {
 fn main() {
     std::panic::set_hook(Box::new(|info| {
         let at = info.location().map_or("?".to_owned(), |l| {
-            format!("{}:{}", l.file().rsplit('/').next().unwrap_or("?"), l.line())
+            format!(
+                "{}:{}",
+                l.file().rsplit('/').next().unwrap_or("?"),
+                l.line()
+            )
         });
         *PANIC.lock().unwrap() = at;
     }));
     // pairs may be as deep as the list is long
-    let run = std::thread::Builder::new().stack_size(1 << 30).spawn(run).unwrap();
+    let run = std::thread::Builder::new()
+        .stack_size(1 << 30)
+        .spawn(run)
+        .unwrap();
     if run.join().is_err() {
         eprintln!("oracle: stopped at {}", PANIC.lock().unwrap());
         std::process::exit(1);

@@ -52,7 +52,10 @@ pub fn compile2(text: &[u8], spans: &[u32], options: u32, out: &mut [u8]) -> Ans
 
 /// Runs on a thread with room for `compile2`, and hands on its panic.
 pub fn with_stack(run: impl FnOnce() + Send + 'static) {
-    let thread = std::thread::Builder::new().stack_size(STACK).spawn(run).unwrap();
+    let thread = std::thread::Builder::new()
+        .stack_size(STACK)
+        .spawn(run)
+        .unwrap();
     if thread.join().is_err() {
         std::process::exit(1);
     }

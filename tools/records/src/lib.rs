@@ -33,9 +33,16 @@ impl Card {
         let count = u32::from_le_bytes(head[..4].try_into().unwrap()) as usize;
         let length = u32::from_le_bytes(head[4..].try_into().unwrap()) as usize;
         let words = bytes(input, 4 * count)?;
-        let words = words.chunks(4).map(|w| u32::from_le_bytes(w.try_into().unwrap())).collect();
+        let words = words
+            .chunks(4)
+            .map(|w| u32::from_le_bytes(w.try_into().unwrap()))
+            .collect();
         let text = bytes(input, length)?;
-        Ok(Some(Card { options, words, text }))
+        Ok(Some(Card {
+            options,
+            words,
+            text,
+        }))
     }
 
     /// All cards of a stream.
@@ -48,7 +55,11 @@ impl Card {
     }
 
     pub fn write(&self, output: &mut impl Write) -> io::Result<()> {
-        for n in [self.options, self.words.len() as u32, self.text.len() as u32] {
+        for n in [
+            self.options,
+            self.words.len() as u32,
+            self.text.len() as u32,
+        ] {
             output.write_all(&n.to_le_bytes())?;
         }
         for w in &self.words {

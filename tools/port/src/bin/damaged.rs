@@ -14,7 +14,14 @@ const PAGE: usize = 4096;
 const CANARIES: usize = 256;
 
 unsafe extern "C" {
-    fn mmap(addr: *mut c_void, length: usize, prot: i32, flags: i32, fd: i32, offset: i64) -> *mut c_void;
+    fn mmap(
+        addr: *mut c_void,
+        length: usize,
+        prot: i32,
+        flags: i32,
+        fd: i32,
+        offset: i64,
+    ) -> *mut c_void;
     fn mprotect(addr: *mut c_void, length: usize, prot: i32) -> i32;
 }
 
@@ -81,7 +88,11 @@ impl Ground {
             2 => 0,
             _ => r.below(free + 1),
         };
-        let lent = Lent { start: start / align * align, len: bytes.len(), canary: r.next() as u8 };
+        let lent = Lent {
+            start: start / align * align,
+            len: bytes.len(),
+            canary: r.next() as u8,
+        };
         let (before, after) = lent.around(self.size);
         let all = self.all();
         all[before].fill(lent.canary);
@@ -93,14 +104,20 @@ impl Ground {
     fn untouched(&mut self, lent: &Lent) -> bool {
         let (before, after) = lent.around(self.size);
         let all = self.all();
-        all[before].iter().chain(&all[after]).all(|b| *b == lent.canary)
+        all[before]
+            .iter()
+            .chain(&all[after])
+            .all(|b| *b == lent.canary)
     }
 }
 
 impl Lent {
     fn around(&self, size: usize) -> (std::ops::Range<usize>, std::ops::Range<usize>) {
         let end = self.start + self.len;
-        (self.start.saturating_sub(CANARIES)..self.start, end..size.min(end + CANARIES))
+        (
+            self.start.saturating_sub(CANARIES)..self.start,
+            end..size.min(end + CANARIES),
+        )
     }
 }
 
@@ -134,7 +151,8 @@ fn damage(c: &mut Card, r: &mut Random) {
             let start = r.below(length + 1);
             let end = (start + r.below(4)).min(length);
             let i = 3 * r.below(spans + 1);
-            c.words.splice(i..i, [r.below(41) as u32, start as u32, end as u32]);
+            c.words
+                .splice(i..i, [r.below(41) as u32, start as u32, end as u32]);
         }
         10 if length > 0 => c.text[r.below(length)] = r.next() as u8,
         11 if length > 0 => c.text[r.below(length)] = r.of(b" \t\n\r\\\"'~{}[]019eu"),
@@ -185,15 +203,24 @@ fn call(g: &mut Grounds, c: &Card, room: usize, r: &mut Random) -> (Answer, Vec<
     assert!(g.text.untouched(&text), "a byte beside the text");
     assert!(g.spans.untouched(&spans), "a byte beside the spans");
     assert!(g.out.untouched(&out), "a byte beside the output");
-    assert!(g.text.all()[text.start..].starts_with(&c.text), "a byte of the text");
-    assert!(g.spans.all()[spans.start..].starts_with(&words), "a byte of the spans");
+    assert!(
+        g.text.all()[text.start..].starts_with(&c.text),
+        "a byte of the text"
+    );
+    assert!(
+        g.spans.all()[spans.start..].starts_with(&words),
+        "a byte of the spans"
+    );
     let after = g.out.all()[out.start..out.start + out.len].to_vec();
     let filled = match answer {
         Answer::Listed(n) => n,
         Answer::Refused(..) => 0,
     };
     assert!(filled <= room, "a listing longer than the output");
-    assert!(after[filled..] == before[filled..], "a byte of the output that no listing fills");
+    assert!(
+        after[filled..] == before[filled..],
+        "a byte of the output that no listing fills"
+    );
     place_is_possible(c, room, answer);
     (answer, after)
 }
@@ -220,10 +247,14 @@ fn calls(g: &mut Grounds, cards: &[Card], seed: u64, n: u64) -> (usize, u64) {
     for _ in 0..r.below(4) {
         damage(&mut c, &mut r);
     }
-    let room = r.of(&[0, 1, 10, 11, 12, 100, 1000, 4096, 65536, 65536, 65536, 65536]);
+    let room = r.of(&[
+        0, 1, 10, 11, 12, 100, 1000, 4096, 65536, 65536, 65536, 65536,
+    ]);
     let (answer, after) = call(g, &c, room, &mut r);
     let length = match answer {
-        Answer::Refused(number, place) if number != 14 || place > 65536 => return (number as usize, 1),
+        Answer::Refused(number, place) if number != 14 || place > 65536 => {
+            return (number as usize, 1);
+        }
         Answer::Refused(_, place) => place,
         Answer::Listed(n) => n,
     };
@@ -231,11 +262,25 @@ fn calls(g: &mut Grounds, cards: &[Card], seed: u64, n: u64) -> (usize, u64) {
         return (if room < length { 14 } else { 0 }, 1);
     }
     let (just, listing) = call(g, &c, length, &mut r);
-    assert_eq!(just, Answer::Listed(length), "a listing has room for itself");
-    assert!(listing.starts_with(b"[template\n") && listing.ends_with(b"]\n"), "a listing");
-    assert!(room < length || after.starts_with(&listing), "the same listing with more room");
+    assert_eq!(
+        just,
+        Answer::Listed(length),
+        "a listing has room for itself"
+    );
+    assert!(
+        listing.starts_with(b"[template\n") && listing.ends_with(b"]\n"),
+        "a listing"
+    );
+    assert!(
+        room < length || after.starts_with(&listing),
+        "the same listing with more room"
+    );
     let (less, _) = call(g, &c, length - 1, &mut r);
-    assert_eq!(less, Answer::Refused(14, length), "a byte less is too little");
+    assert_eq!(
+        less,
+        Answer::Refused(14, length),
+        "a byte less is too little"
+    );
     (if room < length { 14 } else { 0 }, 3)
 }
 
@@ -243,7 +288,8 @@ fn run() {
     let args: Vec<String> = std::env::args().skip(1).collect();
     let number = |i: usize, other: u64| args.get(i).map_or(other, |a| a.parse().expect("a number"));
     let file = std::fs::File::open(args.first().expect("damaged CARDS COUNT [SEED [FIRST]]"));
-    let cards = Card::read_all(&mut BufReader::new(file.expect("the file of records"))).expect("records");
+    let cards =
+        Card::read_all(&mut BufReader::new(file.expect("the file of records"))).expect("records");
     let (count, seed, first) = (number(1, 1_000_000), number(2, 1), number(3, 0));
     let mut g = Grounds {
         text: Ground::new(1 << 17),
@@ -254,7 +300,9 @@ fn run() {
     let (mut made, mut n) = (0, first);
     std::panic::set_hook(Box::new(|info| eprintln!("{info}")));
     while made < count {
-        let told = std::panic::catch_unwind(std::panic::AssertUnwindSafe(|| calls(&mut g, &cards, seed, n)));
+        let told = std::panic::catch_unwind(std::panic::AssertUnwindSafe(|| {
+            calls(&mut g, &cards, seed, n)
+        }));
         let Ok((number, calls)) = told else {
             panic!("at number {n} of seed {seed}");
         };
@@ -265,9 +313,19 @@ fn run() {
             eprintln!("{made} calls, at number {n}");
         }
     }
-    println!("{made} calls, {} cards, seed {seed}: nothing broken", n - first);
+    println!(
+        "{made} calls, {} cards, seed {seed}: nothing broken",
+        n - first
+    );
     for (number, count) in answers.iter().enumerate() {
-        println!("{count:9}  {}", if number == 0 { "listed".to_owned() } else { format!("refused {number}") });
+        println!(
+            "{count:9}  {}",
+            if number == 0 {
+                "listed".to_owned()
+            } else {
+                format!("refused {number}")
+            }
+        );
     }
 }
 
