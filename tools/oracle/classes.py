@@ -65,14 +65,16 @@ class Seen:
         self.panics_here = self.here and self.panics
         self.tree = d.crate.startswith(b"[template\n")
         self.reader = self.walk.reader()
-        self.unread = self.reads() if not at_end and 5 <= self.span.tag <= 18 else False
+        self.unread = None if at_end else self.why_unread()
 
-    def reads(self):
+    def why_unread(self):
+        """Why 8 holds of the span's expression, or None."""
         try:
-            self.reader.tag(self.span)
-        except (Ended, NotAllowed):
-            return True
-        return False
+            if 5 <= self.span.tag <= 18:
+                self.reader.tag(self.span)
+        except (Ended, NotAllowed) as e:
+            return type(e)
+        return None
 
     def over(self):
         """Whether the refused span passes one of 12's limits."""
@@ -107,7 +109,8 @@ def d19_7_where_the_crate_panics(s):
 
 
 def d20_8_where_the_crate_panics(s):
-    return s.number == 8 and s.unread and s.panics_here
+    placed = (s.unread == Ended) == (s.d.place == len(s.d.spans))
+    return s.number == 8 and s.unread is not None and placed and s.panics_here
 
 
 def d21_an_empty_escape_at_the_end_of_its_text(s):
