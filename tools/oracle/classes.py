@@ -2,8 +2,8 @@
 
 A function is given a card that one side turns away or on which the crate panics, with both answers
 (compare.Difference). It says whether the card has what its class is about, by document 01's walk up to the
-refused span (steps.py), and whether the crate did what the class says. The crate may never have stopped
-before the span that the port refuses.
+refused span (steps.py), and whether the crate did what the class says. But for D38 the crate may not have
+stopped before the span that the port refuses.
 """
 import re
 
@@ -173,6 +173,19 @@ def d37_an_end_tag_of_a_block_without_a_body(s):
     return s.seven("no body") and not s.panics
 
 
+def d38_an_escape_behind_another_span_of_its_text(s):
+    """The one class in which the crate stops before the span that the port refuses: at the text."""
+    if not (s.number == 6 and s.panics and s.d.turn == s.walk.turn - 1 and s.d.pair[0] in (2, 3)):
+        return False
+    _, start, end = s.d.pair
+    for e in s.d.spans[s.span.number + 1 :]:
+        if e.start < start or e.end > end:
+            break
+        if e.tag == 4 and e.start == end:
+            return True
+    return False
+
+
 CLASSES = [
     d13_limits,
     d14_12_in_place_of_invalid_param,
@@ -236,9 +249,8 @@ def class_of(d):
         s = Seen(d)
     except Lost:
         return None
-    if s.before:
-        return None
-    return next((label(f) for f in CLASSES if f(s)), None)
+    possible = [d38_an_escape_behind_another_span_of_its_text] if s.before else CLASSES
+    return next((label(f) for f in possible if f(s)), None)
 
 
 def without_inner_escapes(card):
