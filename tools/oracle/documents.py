@@ -3,8 +3,8 @@
 
     documents.py --oracle COMMAND --port COMMAND
 
-Each card's stated answer has to be the port's; where `crate:` says a panic, `InvalidParam` or a listing, that
-has to be the crate's. Prints what is not so.
+Each card's stated answer has to be the port's; where `crate:` says a panic, an error or a listing, that has to be
+the crate's, and where it says something else, the crate has to accept. Prints what is not so.
 """
 import argparse
 import ast
@@ -52,8 +52,9 @@ def agrees(said, got):
     """Whether the crate's answer is what is said of it, as far as that can be told by a program."""
     if said.startswith("panic"):
         return got.startswith("panic")
-    if said.startswith("`InvalidParam`"):
-        return got.startswith("error InvalidParam")
+    error = re.match(r"`(InvalidParam|MismatchingClosed\w+)`", said)
+    if error:
+        return got.startswith("error %s " % error[1])
     if said.startswith("`[template"):
         return said[1:].startswith(lines(got) + "`")
     return got.startswith("[template") if said else True
