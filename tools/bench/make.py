@@ -281,7 +281,7 @@ def escapes(n):
 
 
 def blanks(size, tags):
-    """Comments without text in the middle of blanks: the standalone test of each looks at all of them."""
+    """Comments without text in the middle of blanks, all of which the standalone test of each is about."""
     words = [1, 0, size] + [19, size // 2, size // 2] * tags
     return 0, words, b" " * (size - 1) + b"\n"
 

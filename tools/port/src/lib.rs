@@ -26,7 +26,7 @@ pub enum Answer {
     Refused(u32, usize),
 }
 
-/// The stack that a thread needs which calls `compile2`: the store of elements is a local.
+/// More than enough stack for a thread that calls `compile2`: the store of elements is a local.
 pub const STACK: usize = 64 << 20;
 
 /// Lists the tree of a text into `out`, or says why not.
