@@ -4,11 +4,12 @@ use mathlib.Core.Bool.{Bool, true, false}
 use mathlib.Core.List.{List, [], _∷_}
 use mathlib.Core.Path.{_≡_}
 use lib.Dec.{eqb}
-use lib.ListN.{getD, take, drop}
+use lib.ListN.{length, getD, take, drop}
 use Rattle.support.specs.Bytes.{Bytes, ascii, if}
 use Rattle.literal.specs.Json.{isHex}
 use Rattle.literal.specs.Literal.{maxOpen, maxDigits, maxPower, fits, run}
 use Rattle.literal.specs.Literal as literal
+use Rattle.literal.specs.Requote.{left}
 use Rattle.literal.specs.Scan.{Open, array, object, Next, on, none, value, firstItem, firstKey, key, colon, after, inString, inNumber, inName, minus, zeroFirst, whole, point, fraction, exponent, sign, power, between, backslash, unicode, afterD, hex, high, afterHigh, lowBackslash, lowUnicode, lowAfterD, valueStep, keyStep, afterStep, exponentOr, pointOr, numberStep, stringStep, step}
 use Rattle.literal.specs.Scan as scan
 use Rattle.literal.specs.declared.check.Fed.{Fed}
@@ -26,6 +27,7 @@ use Rattle.literal.specs.declared.mode.Str.{Str}
 use Rattle.literal.specs.declared.mode.Str.the-variants.{Between, Backslash, Unicode, AfterD, Hex, High, AfterHigh, LowBackslash, LowUnicode, LowAfterD}
 use Rattle.literal.specs.declared.mode.Top.{Top}
 use Rattle.literal.specs.declared.mode.Top.the-variants.{Nothing, Array, Object}
+use Rattle.literal.specs.declared.requote.Place.{Place}
 
 abbrev pub numMeans : Num → scan.Num
 numMeans Minus = minus
@@ -179,6 +181,16 @@ pub record WithinIs (depth bits : ℕ) (mode : Mode) (r : Fed) : Type 0 where
 pub record FedIs (s : State) (c : ℕ) (r : Fed) : Type 0 where
   pub same : (rest : Bytes) → stateRuns s (c ∷ rest) ≡ fedRuns r rest
   pub room : fedRoom r
+
+-- how many bytes stand before the first that is not of the class f
+abbrev pub leading : (ℕ → Bool) → Bytes → ℕ
+leading f [] = 0
+leading f (c ∷ s) = elim (f c) [ true ↦ suc (leading f s) | false ↦ 0 ]
+
+-- between the places p and r the bytes of a text, rewritten or not, leave the mode as it is
+pub record PastIs (t : Bytes) (m : Mode) (p r : Place) : Type 0 where
+  pub same : (q : Bool) (st : List Open) → length st ≤ maxOpen → run st (modeMeans m) (left q t p) ≡ run st (modeMeans m) (left q t r)
+  pub fewer : (q : Bool) → length (left q t r) ≤ length (left q t p)
 
 -- what each answer means: document 01's valid, its 9 and its 12
 abbrev pub verdictMeans : Verdict → literal.Verdict

@@ -4,9 +4,10 @@ use crate::mode::Act;
 use crate::mode::Mode;
 use crate::mode::Num;
 use crate::mode::Top;
+use crate::plain::past_plain;
 use crate::requote::Place;
 use crate::requote::Quoted;
-use crate::requote::next_quoted;
+use crate::requote::next_byte;
 use crate::string::string_act;
 use crate::value::after_act;
 use crate::value::colon_act;
@@ -22,7 +23,7 @@ ghost use mathlib.Core.Bool.{_&&_};
 ghost use lib.Dec.{leb};
 ghost use Rattle.literal.specs.Literal.{maxDigits, maxPower, modeFits, verdict};
 ghost use Rattle.literal.specs.Scan.{minus, whole, point, fraction, exponent, sign, power, endsNumber, endsMode};
-ghost use Rattle.literal.specs.Requote.{requoted};
+ghost use Rattle.literal.specs.Requote.{requoted, left};
 ghost use Rattle.literal.specs.Means.{NumberIs, PointIs, ExponentIs, ModeIs, modeRoom, topOf, stackMeans, powerOf2, modeMeans, numMeans, StateRoom, WithinIs, FedIs, stateRuns, verdictMeans};
 
 // JSON within the limits; not JSON; over a limit.
@@ -308,47 +309,22 @@ fn finish(state: State) -> Verdict
     Verdict::Invalid
 }
 
-// The verdict on a literal's text. It stops at the first byte at fault.
-pub fn check_literal(text: &[u8]) -> Verdict
-    ensures { λ r. ⌜ verdictMeans r ≡ verdict (now (text .entry)) ⌝ }
+// The verdict on the bytes of a text from a place on, rewritten or not. It stops at the first byte at
+// fault. One loop for both, so that the compiler can put all of `feed` into it.
+fn judge(text: &[u8], first: Place, quoted: bool) -> Verdict
+    ensures { λ r. ⌜ verdictMeans r ≡ verdict (left quoted (now (text .entry)) first) ⌝ }
 {
     let mut state = State {
         depth: 0,
         bits: 0,
         mode: Mode::Value,
     };
-    let mut i = 0;
-    while i < text.len() {
-        let fed = feed(state, text[i]);
-        match fed {
-            Fed::On(next) => {
-                state = next;
-            }
-            Fed::Invalid => {
-                return Verdict::Invalid;
-            }
-            Fed::Over => {
-                return Verdict::Over;
-            }
-        }
-        i += 1;
-    }
-    finish(state)
-}
-
-// The verdict on the inner text of single quotes, as if it were rewritten.
-pub fn check_quoted(inner: &[u8]) -> Verdict
-    ensures { λ r. ⌜ verdictMeans r ≡ verdict (requoted (now (inner .entry))) ⌝ }
-{
-    let mut state = State {
-        depth: 0,
-        bits: 0,
-        mode: Mode::Value,
-    };
-    let mut place = Place::Opening;
+    let mut place = first;
     loop {
-        let quoted = next_quoted(inner, place);
-        let Quoted::Byte(c, behind) = quoted else {
+        let mode = state.mode;
+        let there = past_plain(text, mode, place);
+        let byte = next_byte(text, there, quoted);
+        let Quoted::Byte(c, behind) = byte else {
             return finish(state);
         };
         let fed = feed(state, c);
@@ -365,4 +341,18 @@ pub fn check_quoted(inner: &[u8]) -> Verdict
         }
         place = behind;
     }
+}
+
+// The verdict on a literal's text.
+pub fn check_literal(text: &[u8]) -> Verdict
+    ensures { λ r. ⌜ verdictMeans r ≡ verdict (now (text .entry)) ⌝ }
+{
+    judge(text, Place::Inner(0), false)
+}
+
+// The verdict on the inner text of single quotes, as if it were rewritten.
+pub fn check_quoted(inner: &[u8]) -> Verdict
+    ensures { λ r. ⌜ verdictMeans r ≡ verdict (requoted (now (inner .entry))) ⌝ }
+{
+    judge(inner, Place::Opening, true)
 }

@@ -3,6 +3,7 @@
 pub mod check;
 mod class;
 mod mode;
+mod plain;
 pub mod requote;
 mod string;
 mod value;
