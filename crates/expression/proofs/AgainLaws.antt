@@ -68,20 +68,20 @@ given-linked text words Part.RightTilde k e = let z : _≡_ {A = ℕ} 0 1 = cc i
 given-linked text words Part.Skipped k e = let z : _≡_ {A = ℕ} 0 1 = cc in absurd (omega arith)
 
 module _ {text : Bytes} {words : List ℕ} {p rest : Parts} (g : Passing text words p rest) where
-  pub passing-end : partsRead text words rest ≡ done [] (spansFrom words (rest .from)) → ParamStepIs text words p ParamStep.End
+  pub passing-end : partsRead false text words rest ≡ done [] (spansFrom words (rest .from)) → ParamStepIs text words p ParamStep.End
   unfolding paramsOf
   passing-end e = record { means = record { rest = spansFrom words (rest .from); reads = g .same ∙ ap (mapped paramsOf) e } }
 
-  pub passing-failed : {f : Fault} → partsRead text words rest ≡ failed (faultMeans f) → ParamStepIs text words p (ParamStep.Failed f)
+  pub passing-failed : {f : Fault} → partsRead false text words rest ≡ failed (faultMeans f) → ParamStepIs text words p (ParamStep.Failed f)
   passing-failed e = record { means = g .same ∙ ap (mapped paramsOf) e }
 
-  module _ {x : Part} {q : Parts} (i : FirstPart text words rest x q) {m : MaybeParam} (r : m ≡ paramOf x) where
+  module _ {x : Part} {q : Parts} (i : FirstPart false text words rest x q) {m : MaybeParam} (r : m ≡ paramOf x) where
     then : {n : MaybeParam} → m ≡ n → paramsRead text words p ≡ mapped (given text words n) (paramsRead text words q)
     unfolding paramsOf
     then e =
-        g .same ∙ ap (mapped paramsOf) (i .first) ∙ mapped-twice paramsOf (λ xs. partMeans text words x ∷ xs) (partsRead text words q)
-        ∙ mapped-same (λ xs. addParam (partMeans text words x) (paramsOf xs)) (λ xs. given text words (paramOf x) (paramsOf xs)) (λ xs. adds text words x (paramsOf xs)) (partsRead text words q)
-        ∙ sym (mapped-twice (given text words (paramOf x)) paramsOf (partsRead text words q))
+        g .same ∙ ap (mapped paramsOf) (i .first) ∙ mapped-twice paramsOf (λ xs. partMeans text words x ∷ xs) (partsRead false text words q)
+        ∙ mapped-same (λ xs. addParam (partMeans text words x) (paramsOf xs)) (λ xs. given text words (paramOf x) (paramsOf xs)) (λ xs. adds text words x (paramsOf xs)) (partsRead false text words q)
+        ∙ sym (mapped-twice (given text words (paramOf x)) paramsOf (partsRead false text words q))
         ∙ ap (λ z. mapped (given text words z) (paramsRead text words q)) (sym r ∙ e)
 
     pub passing-found : {v : Parameter} → m ≡ MaybeParam.Param v → ParamStepIs text words p (ParamStep.Param v q)
@@ -162,7 +162,7 @@ module _ (text : Bytes) (b : Bound) (least : MaybeHash) (x : Part) {m : MaybeHas
 -- ---- the least key: `least` is that of the parts before `rest`
 
 pub record Seeking (text : Bytes) (words : List ℕ) (p : Parts) (b : Bound) (rest : Parts) (least : MaybeHash) : Type 0 where
-  pub same : mapped (leastOf (boundMeans text b)) (partsRead text words p) ≡ mapped (λ xs. lower (leastMeans text words least) (leastOf (boundMeans text b) xs)) (partsRead text words rest)
+  pub same : mapped (leastOf (boundMeans text b)) (partsRead false text words p) ≡ mapped (λ xs. lower (leastMeans text words least) (leastOf (boundMeans text b) xs)) (partsRead false text words rest)
   pub linked : leastLinked text words least
 
 pub seeking-begins : (text : Bytes) (words : List ℕ) (p : Parts) (b : Bound) → Seeking text words p b p MaybeHash.None
@@ -186,7 +186,7 @@ read-failed b f (done xs s) e = cc
 read-failed b f (failed g) e = cc
 
 module _ {text : Bytes} {words : List ℕ} {p : Parts} {b : Bound} {rest : Parts} {least : MaybeHash} (g : Seeking text words p b rest least) where
-  pub seeking-on : {x : Part} {q : Parts} {r : MaybeHash} → FirstPart text words rest x q → LeastIs text b least x r
+  pub seeking-on : {x : Part} {q : Parts} {r : MaybeHash} → FirstPart false text words rest x q → LeastIs text b least x r
       → Seeking text words p b q r
   unfolding leastOf
   seeking-on {x} {q} {r} i l =
@@ -196,41 +196,41 @@ module _ {text : Bytes} {words : List ℕ} {p : Parts} {b : Bound} {rest : Parts
       record {
         same =
             g .same ∙ ap (mapped (λ xs. lower m (leastOf c xs))) (i .first)
-            ∙ mapped-twice (λ xs. lower m (leastOf c xs)) (λ xs. y ∷ xs) (partsRead text words q)
-            ∙ mapped-same (λ xs. lower m (lower (entry c y) (leastOf c xs))) (λ xs. lower (lower m (entry c y)) (leastOf c xs)) (λ xs. lower-lower m (entry c y) (leastOf c xs)) (partsRead text words q)
-            ∙ ap (λ z. mapped (λ xs. lower z (leastOf c xs)) (partsRead text words q)) (sym (l .means words));
+            ∙ mapped-twice (λ xs. lower m (leastOf c xs)) (λ xs. y ∷ xs) (partsRead false text words q)
+            ∙ mapped-same (λ xs. lower m (lower (entry c y) (leastOf c xs))) (λ xs. lower (lower m (entry c y)) (leastOf c xs)) (λ xs. lower-lower m (entry c y) (leastOf c xs)) (partsRead false text words q)
+            ∙ ap (λ z. mapped (λ xs. lower z (leastOf c xs)) (partsRead false text words q)) (sym (l .means words));
         linked = l .linked words (g .linked) (i .linked);
       }
 
-  ends : partsRead text words rest ≡ done [] (spansFrom words (rest .from)) → {n : MaybeHash} → least ≡ n
-      → mapped (leastOf (boundMeans text b)) (partsRead text words p) ≡ done (leastMeans text words n) (spansFrom words (rest .from))
+  ends : partsRead false text words rest ≡ done [] (spansFrom words (rest .from)) → {n : MaybeHash} → least ≡ n
+      → mapped (leastOf (boundMeans text b)) (partsRead false text words p) ≡ done (leastMeans text words n) (spansFrom words (rest .from))
   unfolding leastOf
   ends e f =
       g .same ∙ ap (mapped (λ xs. lower (leastMeans text words least) (leastOf (boundMeans text b) xs))) e
       ∙ ap (λ z. done z (spansFrom words (rest .from))) (lower-none (leastMeans text words least) ∙ ap (leastMeans text words) f)
 
-  pub seeking-none : partsRead text words rest ≡ done [] (spansFrom words (rest .from)) → least ≡ MaybeHash.None
+  pub seeking-none : partsRead false text words rest ≡ done [] (spansFrom words (rest .from)) → least ≡ MaybeHash.None
       → KeyStepIs text words p b KeyStep.End
-  seeking-none e f = record { means = read-none (boundMeans text b) (spansFrom words (rest .from)) (partsRead text words p) (ends e f) }
+  seeking-none e f = record { means = read-none (boundMeans text b) (spansFrom words (rest .from)) (partsRead false text words p) (ends e f) }
 
-  pub seeking-found : {h : Hash} → partsRead text words rest ≡ done [] (spansFrom words (rest .from)) → least ≡ MaybeHash.Hash h
+  pub seeking-found : {h : Hash} → partsRead false text words rest ≡ done [] (spansFrom words (rest .from)) → least ≡ MaybeHash.Hash h
       → KeyStepIs text words p b (KeyStep.Key h)
   seeking-found {h} e f = record {
     means = record {
-      first = read-some (boundMeans text b) (nameMeans text (h .key)) (paramMeans text words (h .value)) (spansFrom words (rest .from)) (partsRead text words p) (ends e f);
+      first = read-some (boundMeans text b) (nameMeans text (h .key)) (paramMeans text words (h .value)) (spansFrom words (rest .from)) (partsRead false text words p) (ends e f);
       linked = subst (λ z. leastLinked text words z) f (g .linked);
     };
   }
 
-  pub seeking-failed : {f : Fault} → partsRead text words rest ≡ failed (faultMeans f) → KeyStepIs text words p b (KeyStep.Failed f)
+  pub seeking-failed : {f : Fault} → partsRead false text words rest ≡ failed (faultMeans f) → KeyStepIs text words p b (KeyStep.Failed f)
   seeking-failed {f} e = record {
-    means = read-failed (boundMeans text b) (faultMeans f) (partsRead text words p) (g .same ∙ ap (mapped (λ xs. lower (leastMeans text words least) (leastOf (boundMeans text b) xs))) e);
+    means = read-failed (boundMeans text b) (faultMeans f) (partsRead false text words p) (g .same ∙ ap (mapped (λ xs. lower (leastMeans text words least) (leastOf (boundMeans text b) xs))) e);
   }
 
 -- ---- into a subexpression
 
 pub enters : (text : Bytes) (words : List ℕ) (s : Subexpression) (r : ExpressionRead)
-    → ExpressionIs text words (readExpression text (s .depth) (s .limit) (spansFrom words (s .from))) (s .from) r
+    → ExpressionIs text words (readExpression false text (s .depth) (s .limit) (spansFrom words (s .from))) (s .from) r
     → SubexpressionIs text words s r
 unfolding paramMeans expressionMeans
 enters text words s (ExpressionRead.Done x) i = record { means = record { means = ap (λ o. subexpression (callOr o)) (i .reads); linked = i .linked } }

@@ -2,7 +2,7 @@
 use Prim.Native.Nat.{ℕ}
 use mathlib.Core.Path.{_≡_, subst}
 use mathlib.Core.List.{List, []}
-use mathlib.Core.Bool.{Bool}
+use mathlib.Core.Bool.{Bool, false}
 use Rattle.support.specs.Bytes.{Bytes}
 use Rattle.json_path.specs.Span.{Span, spansFrom}
 use Rattle.json_path.specs.declared.span.Next.{Next}
@@ -69,23 +69,23 @@ module _ {text : Bytes} {words : List ℕ} where
     pub param-failed : {f : Fault} → r ≡ ParamRead.Failed f → ParamIs text words o low r → o ≡ failed (faultMeans f)
     param-failed e h = (subst (λ z. ParamIs text words o low z) e h) .reads
 
-  module _ {d at : ℕ} {r : HashRead} where
-    pub hash-done : {h : Hash} {n : ℕ} → r ≡ HashRead.Done h n → HashIs text words d at r → HashIs text words d at (HashRead.Done h n)
-    hash-done e h = subst (λ z. HashIs text words d at z) e h
+  module _ {judged : Bool} {d at : ℕ} {r : HashRead} where
+    pub hash-done : {h : Hash} {n : ℕ} → r ≡ HashRead.Done h n → HashIs judged text words d at r → HashIs judged text words d at (HashRead.Done h n)
+    hash-done e h = subst (λ z. HashIs judged text words d at z) e h
 
-    pub hash-failed : {f : Fault} → r ≡ HashRead.Failed f → HashIs text words d at r
-        → readHash text d (spansFrom words at) ≡ failed (faultMeans f)
-    hash-failed e h = (subst (λ z. HashIs text words d at z) e h) .reads
+    pub hash-failed : {f : Fault} → r ≡ HashRead.Failed f → HashIs judged text words d at r
+        → readHash judged text d (spansFrom words at) ≡ failed (faultMeans f)
+    hash-failed e h = (subst (λ z. HashIs judged text words d at z) e h) .reads
 
-  module _ {p : Parts} {r : PartRead} where
-    pub part-found : {x : Part} {q : Parts} → r ≡ PartRead.Part x q → PartIs text words p r → FirstPart text words p x q
-    part-found e h = (subst (λ z. PartIs text words p z) e h) .means
+  module _ {judged : Bool} {p : Parts} {r : PartRead} where
+    pub part-found : {x : Part} {q : Parts} → r ≡ PartRead.Part x q → PartIs judged text words p r → FirstPart judged text words p x q
+    part-found e h = (subst (λ z. PartIs judged text words p z) e h) .means
 
-    pub part-none : r ≡ PartRead.End → PartIs text words p r → partsRead text words p ≡ done [] (spansFrom words (p .from))
-    part-none e h = (subst (λ z. PartIs text words p z) e h) .means
+    pub part-none : r ≡ PartRead.End → PartIs judged text words p r → partsRead judged text words p ≡ done [] (spansFrom words (p .from))
+    part-none e h = (subst (λ z. PartIs judged text words p z) e h) .means
 
-    pub part-failed : {f : Fault} → r ≡ PartRead.Failed f → PartIs text words p r → partsRead text words p ≡ failed (faultMeans f)
-    part-failed e h = (subst (λ z. PartIs text words p z) e h) .means
+    pub part-failed : {f : Fault} → r ≡ PartRead.Failed f → PartIs judged text words p r → partsRead judged text words p ≡ failed (faultMeans f)
+    part-failed e h = (subst (λ z. PartIs judged text words p z) e h) .means
 
   module _ {o : Read Expression} {low : ℕ} {r : ExpressionRead} where
     pub expression-done : {x : ExpressionSpec} → r ≡ ExpressionRead.Done x → ExpressionIs text words o low r
@@ -121,5 +121,5 @@ module _ {text : Bytes} {words : List ℕ} where
     entered e h = (subst (λ z. SubexpressionIs text words s z) e h) .means
 
     pub not-entered : {f : Fault} → r ≡ ExpressionRead.Failed f → SubexpressionIs text words s r
-        → readExpression text (s .depth) (s .limit) (spansFrom words (s .from)) ≡ failed (faultMeans f)
+        → readExpression false text (s .depth) (s .limit) (spansFrom words (s .from)) ≡ failed (faultMeans f)
     not-entered e h = (subst (λ z. SubexpressionIs text words s z) e h) .means

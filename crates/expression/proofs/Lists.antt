@@ -4,6 +4,7 @@ use Prim.Native.Nat.{ℕ}
 use native.Mathlib.Omega.{arith}
 use mathlib.Core.Path.{_≡_, refl, sym, ap, _∙_}
 use mathlib.Core.List.{List}
+use mathlib.Core.Bool.{false}
 use mathlib.Core.Option.{none}
 use Rattle.support.specs.Bytes.{Bytes}
 use Rattle.json_path.specs.Answers.{nameMeans}
@@ -108,7 +109,7 @@ call-met text words n {p} {vs} {ks} a b =
     ∙ ap (call (paramMeans text words n) vs) k
 
 -- where the parts can be read, both lists are known, and the call is theirs
-module _ (text : Bytes) (words : List ℕ) (p : Parts) (h : Readable (partsRead text words p)) where
+module _ (text : Bytes) (words : List ℕ) (p : Parts) (h : Readable (partsRead false text words p)) where
   pub params-known : Reads (paramsRead text words p) (paramsOf (h .value))
   params-known = record { rest = h .rest; reads = ap (mapped paramsOf) (h .reads) }
 

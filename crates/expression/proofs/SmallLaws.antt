@@ -4,9 +4,9 @@ use Prim.Native.Nat.{ℕ, _+_, _≤_, _<_}
 use native.Mathlib.Omega.{arith}
 use mathlib.Core.Path.{_≡_, refl, sym, ap, subst, _∙_}
 use mathlib.Core.List.{List, []}
-use mathlib.Core.Bool.{true, false}
+use mathlib.Core.Bool.{Bool, true, false}
 use borrow.Author.Tests.{ne-eqb, le-leb, lt-leb}
-use Rattle.support.specs.Bytes.{Bytes}
+use Rattle.support.specs.Bytes.{Bytes, part}
 use Rattle.json_path.specs.Span.{Span, own, spansFrom, skipTo}
 use Rattle.json_path.specs.Answers.{pathMeans, Walked, NextIs, PathIs}
 use Rattle.json_path.specs.declared.span.Next.{Next}
@@ -22,9 +22,9 @@ use Rattle.literal.specs.Requote.{requoted}
 use Rattle.literal.specs.Means.{verdictMeans}
 use Rattle.literal.specs.declared.check.Verdict.{Verdict}
 use Rattle.literal.specs.declared.check.Verdict.the-variants as Verdict
-use Rattle.expression.specs.Expression.{Param, path, single, asName}
+use Rattle.expression.specs.Expression.{path, single, asName}
 use Rattle.expression.specs.Read.{done, next}
-use Rattle.expression.specs.Readers.{readTilde, literalText, readOwnSpan, readPath, readLiteral, readSecond, readBlockParam}
+use Rattle.expression.specs.Readers.{readTilde, judgement, literalText, readOwnSpan, readPath, readLiteral, readSecond, readBlockParam}
 use Rattle.expression.specs.Answers.{literalMeans, paramMeans, ParamIs, literalRead, NamesIs, TildeIs, BlockIs, OwnIs}
 use Rattle.expression.specs.declared.parameter.Literal.{Literal}
 use Rattle.expression.specs.declared.parameter.Subexpression.{Subexpression}
@@ -151,50 +151,59 @@ module _ {p : Parameter} where
 pub read-as : (l : Literal) (n : ℕ) {v u : Verdict} → v ≡ u → literalRead u l n ≡ literalRead v l n
 read-as l n e = ap (λ z. literalRead z l n) (sym e)
 
-module _ (text : Bytes) (words : List ℕ) (s : Span) (at : ℕ) where
+-- the verdict on the text that l denotes: none is asked for, or it is in single quotes, or it is not
+module _ (judged : Bool) (text : Bytes) (l : Literal) where
+  pub judge-not : judged ≡ false → verdictMeans Verdict.Valid ≡ judgement judged (literalMeans text l)
+  judge-not e = rw e
+
+  module _ {u : Bytes} (v : Verdict) (e : judged ≡ true) (a : u ≡ part text (l .start) (l .end)) where
+    pub judge-quoted : l .quoted ≡ true → verdictMeans v ≡ verdict (requoted u) → verdictMeans v ≡ judgement judged (literalMeans text l)
+    judge-quoted f b = b ∙ rw (a, e, f)
+
+    pub judge-plain : l .quoted ≡ false → verdictMeans v ≡ verdict u → verdictMeans v ≡ judgement judged (literalMeans text l)
+    judge-plain f b = b ∙ rw (a, e, f)
+
+module _ (judged : Bool) (text : Bytes) (words : List ℕ) (s : Span) (at : ℕ) where
   abbrev Answered : ParamRead → Type 0
-  Answered r = ParamIs text words (readLiteral text s (spansFrom words at)) at r
+  Answered r = ParamIs text words (readLiteral judged text s (spansFrom words at)) at r
 
   pub literal-none : spansFrom words at ≡ [] → Answered (ParamRead.Failed Ended)
   unfolding readLiteral
-  literal-none e = record { reads = ap (readLiteral text s) e; onward = tt; linked = tt }
+  literal-none e = record { reads = ap (readLiteral judged text s) e; onward = tt; linked = tt }
 
-  -- the verdict on the text t, and l denotes t
-  judged : (t : Bytes) (n : ℕ) (v : Verdict) (l : Literal) → readLiteral text s (spansFrom words at) ≡ literalText t (spansFrom words n)
-      → at ≤ n → literalMeans text l ≡ t → verdictMeans v ≡ verdict t → Answered (literalRead v l n)
+  -- the verdict on the text that l denotes
+  by-verdict : (n : ℕ) (v : Verdict) (l : Literal)
+      → readLiteral judged text s (spansFrom words at) ≡ literalText judged (literalMeans text l) (spansFrom words n) → at ≤ n
+      → verdictMeans v ≡ judgement judged (literalMeans text l) → Answered (literalRead v l n)
   unfolding paramMeans
-  judged t n Verdict.Valid l e h i j = record {
-    reads = e ∙ rw (sym j, literalText) (ap (λ z. done (Param.literal z) (spansFrom words n)) (sym i));
-    onward = h;
-    linked = tt;
-  }
-  judged t n Verdict.Invalid l e h i j = record { reads = e ∙ rw (sym j, literalText); onward = tt; linked = tt }
-  judged t n Verdict.Over l e h i j = record { reads = e ∙ rw (sym j, literalText); onward = tt; linked = tt }
+  by-verdict n Verdict.Valid l e h j = record { reads = e ∙ rw (sym j, literalText); onward = h; linked = tt }
+  by-verdict n Verdict.Invalid l e h j = record { reads = e ∙ rw (sym j, literalText); onward = tt; linked = tt }
+  by-verdict n Verdict.Over l e h j = record { reads = e ∙ rw (sym j, literalText); onward = tt; linked = tt }
 
   module _ {i : Span} (w : Walked words at i) where
-    pub literal-plain : {u : Bytes} (v : Verdict) {r : ParamRead} → (i .tag ≡ 30 → ⊥) → u ≡ own text s → verdictMeans v ≡ verdict u
+    pub literal-plain : (v : Verdict) {r : ParamRead} → (i .tag ≡ 30 → ⊥) → verdictMeans v ≡ judgement judged (own text s)
         → r ≡ literalRead v (record { start = s .start; end = s .end; quoted = false }) (i .number + 1) → Answered r
     unfolding readLiteral
-    literal-plain v h a b e =
-        subst Answered (sym e) (judged (own text s) (i .number + 1) v _ (ap (readLiteral text s) (w .first) ∙ rw (ne-eqb (i .tag) 30 h)) (omega arith) refl (b ∙ ap verdict a))
+    literal-plain v h b e =
+        subst Answered (sym e) (by-verdict (i .number + 1) v _ (ap (readLiteral judged text s) (w .first) ∙ rw (ne-eqb (i .tag) 30 h)) (omega arith) b)
 
     pub literal-cut : i .tag ≡ 30 → spansFrom words (i .number + 1) ≡ [] → Answered (ParamRead.Failed Ended)
     unfolding readLiteral
-    literal-cut h e = record { reads = ap (readLiteral text s) (w .first) ∙ rw (h, e); onward = tt; linked = tt }
+    literal-cut h e = record { reads = ap (readLiteral judged text s) (w .first) ∙ rw (h, e); onward = tt; linked = tt }
 
     module _ {q : Span} (x : Walked words (i .number + 1) q) (h : i .tag ≡ 30) where
-      pub literal-double : {u : Bytes} (v : Verdict) {r : ParamRead} → (q .tag ≡ 31 → ⊥) → u ≡ own text s → verdictMeans v ≡ verdict u
+      pub literal-double : (v : Verdict) {r : ParamRead} → (q .tag ≡ 31 → ⊥) → verdictMeans v ≡ judgement judged (own text s)
           → r ≡ literalRead v (record { start = s .start; end = s .end; quoted = false }) (i .number + 1) → Answered r
       unfolding readLiteral
-      literal-double v k a b e =
-          subst Answered (sym e) (judged (own text s) (i .number + 1) v _
-          (ap (readLiteral text s) (w .first) ∙ rw (h, x .first, ne-eqb (q .tag) 31 k))
-          (omega arith) refl (b ∙ ap verdict a))
+      literal-double v k b e =
+          subst Answered (sym e) (by-verdict (i .number + 1) v _
+          (ap (readLiteral judged text s) (w .first) ∙ rw (h, x .first, ne-eqb (q .tag) 31 k))
+          (omega arith) b)
 
-      pub literal-single : {u : Bytes} (v : Verdict) {r : ParamRead} → q .tag ≡ 31 → u ≡ own text q → verdictMeans v ≡ verdict (requoted u)
+      pub literal-single : (v : Verdict) {r : ParamRead} → q .tag ≡ 31 → verdictMeans v ≡ judgement judged (requoted (own text q))
           → r ≡ literalRead v (record { start = q .start; end = q .end; quoted = true }) (q .number + 1) → Answered r
       unfolding readLiteral
-      literal-single v k a b e =
-          subst Answered (sym e) (judged (requoted (own text q)) (q .number + 1) v _
-          (ap (readLiteral text s) (w .first) ∙ rw (h, x .first, k))
-          (omega arith) refl (b ∙ ap (λ z. verdict (requoted z)) a))
+      literal-single v k b e =
+          subst Answered (sym e) (by-verdict (q .number + 1) v _
+          (ap (readLiteral judged text s) (w .first) ∙ rw (h, x .first, k))
+          (omega arith) b)

@@ -1,4 +1,5 @@
--- Reading again: an expression's parameters in order, its keys in byte order, and into a subexpression, from their links.
+-- Reading again: an expression's parameters in order, its keys in byte order, and into a subexpression, from their links. Literals were judged
+-- when they were first read, and are kept as they stand.
 use Prim.Native.Nat.{ℕ, _<_}
 use mathlib.Core.Path.{_≡_}
 use mathlib.Core.List.{List}
@@ -103,7 +104,7 @@ pub record Entered (text : Bytes) (words : List ℕ) (s : Subexpression) (x : Ex
 -- what each case says: the expression of the link s, or why it has none
 abbrev pub subexpressionMeans : Bytes → List ℕ → Subexpression → ExpressionRead → Type 0
 subexpressionMeans text words s (ExpressionRead.Done x) = Entered text words s x
-subexpressionMeans text words s (ExpressionRead.Failed f) = readExpression text (s .depth) (s .limit) (spansFrom words (s .from)) ≡ failed (faultMeans f)
+subexpressionMeans text words s (ExpressionRead.Failed f) = readExpression false text (s .depth) (s .limit) (spansFrom words (s .from)) ≡ failed (faultMeans f)
 
 -- r is what the link s leads to
 pub record SubexpressionIs (text : Bytes) (words : List ℕ) (s : Subexpression) (r : ExpressionRead) : Type 0 where

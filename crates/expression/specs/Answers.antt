@@ -2,7 +2,7 @@
 use Prim.Native.Nat.{ℕ, _+_, _≤_, _<_}
 use mathlib.Core.Path.{_≡_}
 use mathlib.Core.List.{List, [], _∷_}
-use mathlib.Core.Bool.{Bool, true}
+use mathlib.Core.Bool.{Bool, true, false}
 use mathlib.Core.Option.{Option, none, some}
 use Rattle.support.specs.Bytes.{Bytes, if, part}
 use Rattle.json_path.specs.Span.{Span, spanCount, spansFrom}
@@ -62,19 +62,19 @@ abbrev pub callOr : Read Expression → Call
 callOr (done x r) = x .callOf
 callOr (failed e) = call (name []) noParams noKeys
 
--- the parameter that a value of the code denotes; of a subexpression, what is read at its link
+-- the parameter that a value of the code denotes; of a subexpression, what is read again at its link
 unfoldable pub paramMeans : Bytes → List ℕ → Parameter → Param
 paramMeans text words (Name n) = name (nameMeans text n)
 paramMeans text words (Path p) = path (pathMeans text words p)
 paramMeans text words (Literal l) = literal (literalMeans text l)
-paramMeans text words (Subexpression s) = subexpression (callOr (readExpression text (s .depth) (s .limit) (spansFrom words (s .from))))
+paramMeans text words (Subexpression s) = subexpression (callOr (readExpression false text (s .depth) (s .limit) (spansFrom words (s .from))))
 
 -- what it links to can be read again
 abbrev pub paramLinked : Bytes → List ℕ → Parameter → Type 0
 paramLinked text words (Name n) = Unit {0}
 paramLinked text words (Path p) = Unit {0}
 paramLinked text words (Literal l) = Unit {0}
-paramLinked text words (Subexpression s) = Readable (readExpression text (s .depth) (s .limit) (spansFrom words (s .from)))
+paramLinked text words (Subexpression s) = Readable (readExpression false text (s .depth) (s .limit) (spansFrom words (s .from)))
 
 -- the name, or none
 abbrev pub asNameMeans : Bytes → AsName → Option Bytes
@@ -186,9 +186,9 @@ abbrev pub hashReadLinked : Bytes → List ℕ → HashRead → Type 0
 hashReadLinked text words (HashRead.Done h next) = paramLinked text words (h .value)
 hashReadLinked text words (HashRead.Failed f) = Unit {0}
 
--- r is the key and value read from number `at` on
-pub record HashIs (text : Bytes) (words : List ℕ) (depth at : ℕ) (r : HashRead) : Type 0 where
-  pub reads : readHash text depth (spansFrom words at) ≡ hashReadMeans text words r
+-- r is the key and value read from number `at` on, with literals judged or not
+pub record HashIs (judged : Bool) (text : Bytes) (words : List ℕ) (depth at : ℕ) (r : HashRead) : Type 0 where
+  pub reads : readHash judged text depth (spansFrom words at) ≡ hashReadMeans text words r
   pub onward : hashNext at r
   pub linked : hashReadLinked text words r
 
@@ -208,31 +208,31 @@ partLinked text words (Part.BlockParam b) = Unit {0}
 partLinked text words Part.RightTilde = Unit {0}
 partLinked text words Part.Skipped = Unit {0}
 
--- what is read at a link
-abbrev pub partsRead : Bytes → List ℕ → Parts → Read (List spec.Part)
-partsRead text words p = readParts text (p .depth) (p .limit) (spansFrom words (p .from))
+-- what is read at a link, with literals judged or not
+abbrev pub partsRead : Bool → Bytes → List ℕ → Parts → Read (List spec.Part)
+partsRead judged text words p = readParts judged text (p .depth) (p .limit) (spansFrom words (p .from))
 
 -- the same link from another number on
 abbrev pub partsAt : Parts → ℕ → Parts
 partsAt p next = record { from = next; limit = p .limit; depth = p .depth }
 
 -- x is the first part of p's, and those of q, the same link from another number on, are the others
-pub record FirstPart (text : Bytes) (words : List ℕ) (p : Parts) (x : Part) (q : Parts) : Type 0 where
-  pub first : partsRead text words p ≡ mapped (λ xs. partMeans text words x ∷ xs) (partsRead text words q)
+pub record FirstPart (judged : Bool) (text : Bytes) (words : List ℕ) (p : Parts) (x : Part) (q : Parts) : Type 0 where
+  pub first : partsRead judged text words p ≡ mapped (λ xs. partMeans text words x ∷ xs) (partsRead judged text words q)
   pub link : q ≡ partsAt p (q .from)
   pub onward : p .from < q .from
   pub inside : p .from < spanCount words
   pub linked : partLinked text words x
 
 -- what each case says
-abbrev pub partReadMeans : Bytes → List ℕ → Parts → PartRead → Type 0
-partReadMeans text words p (PartRead.Part x q) = FirstPart text words p x q
-partReadMeans text words p PartRead.End = partsRead text words p ≡ done [] (spansFrom words (p .from))
-partReadMeans text words p (PartRead.Failed f) = partsRead text words p ≡ failed (faultMeans f)
+abbrev pub partReadMeans : Bool → Bytes → List ℕ → Parts → PartRead → Type 0
+partReadMeans judged text words p (PartRead.Part x q) = FirstPart judged text words p x q
+partReadMeans judged text words p PartRead.End = partsRead judged text words p ≡ done [] (spansFrom words (p .from))
+partReadMeans judged text words p (PartRead.Failed f) = partsRead judged text words p ≡ failed (faultMeans f)
 
 -- r is the first part of p's, or says why there is none
-pub record PartIs (text : Bytes) (words : List ℕ) (p : Parts) (r : PartRead) : Type 0 where
-  pub means : partReadMeans text words p r
+pub record PartIs (judged : Bool) (text : Bytes) (words : List ℕ) (p : Parts) (r : PartRead) : Type 0 where
+  pub means : partReadMeans judged text words p r
 
 -- the block parameter after a part: the last one is kept
 abbrev pub blockThen : BlockParam → Part → BlockParam
@@ -252,12 +252,12 @@ tildeThen t Part.Skipped = t
 
 -- ---- expressions
 
--- the parameters and the keys of a link's parts
+-- the parameters and the keys of a link's parts, read again
 abbrev pub paramsRead : Bytes → List ℕ → Parts → Read Params
-paramsRead text words p = mapped paramsOf (partsRead text words p)
+paramsRead text words p = mapped paramsOf (partsRead false text words p)
 
 abbrev pub keysRead : Bytes → List ℕ → Parts → Read Keys
-keysRead text words p = mapped keysOf (partsRead text words p)
+keysRead text words p = mapped keysOf (partsRead false text words p)
 
 -- the call of a name and a link's parts
 abbrev pub callMeans : Bytes → List ℕ → Parameter → Parts → Call
@@ -285,7 +285,7 @@ expressionNext low (ExpressionRead.Failed f) = Unit {0}
 -- what an expression links to can be read again
 pub record Links (text : Bytes) (words : List ℕ) (x : ExpressionSpec) : Type 0 where
   pub name : paramLinked text words (x .name)
-  pub parts : Readable (partsRead text words (x .parts))
+  pub parts : Readable (partsRead false text words (x .parts))
 
 abbrev pub expressionLinked : Bytes → List ℕ → ExpressionRead → Type 0
 expressionLinked text words (ExpressionRead.Done x) = Links text words x
@@ -299,11 +299,11 @@ pub record ExpressionIs (text : Bytes) (words : List ℕ) (o : Read Expression) 
 
 -- its name is n, and its parts can be read again
 abbrev pub partsLinked : Bytes → List ℕ → Parameter → ExpressionRead → Type 0
-partsLinked text words n (ExpressionRead.Done x) = (x .name ≡ n) × Readable (partsRead text words (x .parts))
+partsLinked text words n (ExpressionRead.Done x) = (x .name ≡ n) × Readable (partsRead false text words (x .parts))
 partsLinked text words n (ExpressionRead.Failed f) = Unit {0}
 
 -- r is the expression of a left tilde, a name and the parts of a link
-pub record PartsIs (text : Bytes) (words : List ℕ) (left : Bool) (n : Parameter) (p : Parts) (r : ExpressionRead) : Type 0 where
-  pub reads : mapped (expressionOf left (paramMeans text words n)) (partsRead text words p) ≡ expressionReadMeans text words r
+pub record PartsIs (judged : Bool) (text : Bytes) (words : List ℕ) (left : Bool) (n : Parameter) (p : Parts) (r : ExpressionRead) : Type 0 where
+  pub reads : mapped (expressionOf left (paramMeans text words n)) (partsRead judged text words p) ≡ expressionReadMeans text words r
   pub onward : expressionNext (p .from) r
   pub linked : partsLinked text words n r

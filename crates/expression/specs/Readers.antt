@@ -8,7 +8,7 @@ use lib.ListN.{length}
 use Rattle.support.specs.Bytes.{Bytes, if}
 use Rattle.json_path.specs.Span.{Span, own, skipTo}
 use Rattle.json_path.specs.Path.{pathAt}
-use Rattle.literal.specs.Literal.{valid, invalid, over, verdict}
+use Rattle.literal.specs.Literal.{Verdict, valid, invalid, over, verdict}
 use Rattle.literal.specs.Requote.{requoted}
 use Rattle.expression.specs.Expression.{Param, name, path, literal, subexpression, BlockParam, single, pair, Part, parameter, hash, block, rightTilde, skipped, Expression, expressionOf}
 use Rattle.expression.specs.Read.{ended, notAllowed, invalidLiteral, overLimit, exhausted, done, failed, Reader, _>>=_, pure, fail, next, peek, nextBelow, skipping, isTag}
@@ -26,9 +26,14 @@ abbrev pub readTilde : Reader Bool
 readTilde [] = failed ended
 readTilde (s ∷ r) = if (isTag 34 s) (done true r) (done false (s ∷ r))
 
--- a literal's text, if it is valid
-abbrev pub literalText : Bytes → Reader Param
-literalText t = elim (verdict t) [ valid ↦ pure (literal t) | invalid ↦ fail invalidLiteral | over ↦ fail overLimit ]
+-- the verdict on a literal's text; one that is read again was judged before and is kept as it stands
+abbrev pub judgement : Bool → Bytes → Verdict
+judgement true t = verdict t
+judgement false t = valid
+
+-- a literal's text, unless it is refused
+abbrev pub literalText : Bool → Bytes → Reader Param
+literalText judged t = elim (judgement judged t) [ valid ↦ pure (literal t) | invalid ↦ fail invalidLiteral | over ↦ fail overLimit ]
 
 -- a parameter's own span: one tag 28 in front of it is passed over
 abbrev pub passOver28 : Span → Reader Span
@@ -40,24 +45,14 @@ readOwnSpan = do
   s ← next
   passOver28 s
 
+-- enough steps for these spans
+abbrev pub enough : List Span → ℕ
+enough s = 3 * length s + 3
+
 module _ (text : Bytes) where
   -- tag 26: the path of the spans that end no later than it
   unfoldable pub readPath : Span → Reader Param
   readPath s r = done (path (pathAt text s r)) (skipTo (s .end) r)
-
-  -- tag 29 takes the next span; after a 30 one must follow, and a 31 there is taken and requoted
-  unfoldable pub readLiteral : Span → Reader Param
-  readLiteral s = do
-    i ← next
-    if (isTag 30 i)
-        (do
-          q ← peek
-          if (isTag 31 q)
-              (do
-                r ← next
-                literalText (requoted (own text r)))
-              (literalText (own text s)))
-        (literalText (own text s))
 
   -- a second name, if it does not end past the limit
   unfoldable pub readSecond : ℕ → Bytes → Reader BlockParam
@@ -77,21 +72,6 @@ module _ (text : Bytes) where
       (if (isTag 26 s) (readPath s)
       (if (isTag 27 s) (sub (s .end))
       (fail notAllowed)))
-
-  -- a parameter from its own span
-  abbrev pub valueWith : (ℕ → Reader Param) → Span → Reader Param
-  valueWith sub s =
-      if (isTag 26 s) (readPath s)
-      (if (isTag 27 s) (sub (s .end))
-      (if (isTag 29 s) (readLiteral s)
-      (fail notAllowed)))
-
-  -- a parameter; when read, it skips the spans that end no later than it
-  abbrev pub paramWith : (ℕ → Reader Param) → Reader Param
-  paramWith sub = do
-    s ← readOwnSpan
-    p ← valueWith sub s
-    skipping (s .end) p
 
   -- behind a tag 32: a span as key, and then a parameter
   abbrev pub hashWith : Reader Param → Reader Part
@@ -123,11 +103,42 @@ module _ (text : Bytes) where
     xs ← parts
     pure (expressionOf left n xs)
 
+-- document 01's reading, in which each literal is judged; or reading again what was so read, in which a literal is kept as it stands
+module _ (judged : Bool) (text : Bytes) where
+  -- tag 29 takes the next span; after a 30 one must follow, and a 31 there is taken and requoted
+  unfoldable pub readLiteral : Span → Reader Param
+  readLiteral s = do
+    i ← next
+    if (isTag 30 i)
+        (do
+          q ← peek
+          if (isTag 31 q)
+              (do
+                r ← next
+                literalText judged (requoted (own text r)))
+              (literalText judged (own text s)))
+        (literalText judged (own text s))
+
+  -- a parameter from its own span
+  abbrev pub valueWith : (ℕ → Reader Param) → Span → Reader Param
+  valueWith sub s =
+      if (isTag 26 s) (readPath text s)
+      (if (isTag 27 s) (sub (s .end))
+      (if (isTag 29 s) (readLiteral s)
+      (fail notAllowed)))
+
+  -- a parameter; when read, it skips the spans that end no later than it
+  abbrev pub paramWith : (ℕ → Reader Param) → Reader Param
+  paramWith sub = do
+    s ← readOwnSpan
+    p ← valueWith sub s
+    skipping (s .end) p
+
   -- in each of these the first number bounds the steps and the second says how many subexpressions may still be opened inside one another
   unfoldable mutual
     pub readNameBy : ℕ → ℕ → Reader Param
     readNameBy zero d = fail exhausted
-    readNameBy (suc k) d = next >>= nameWith (λ limit. readSubexpressionBy k d limit)
+    readNameBy (suc k) d = next >>= nameWith text (λ limit. readSubexpressionBy k d limit)
 
     pub readSubexpressionBy : ℕ → ℕ → ℕ → Reader Param
     readSubexpressionBy zero d limit = fail exhausted
@@ -142,7 +153,7 @@ module _ (text : Bytes) where
 
     pub readExpressionBy : ℕ → ℕ → ℕ → Reader Expression
     readExpressionBy zero d limit = fail exhausted
-    readExpressionBy (suc k) d limit = expressionWith (readNameBy k d) (readPartsBy k d limit)
+    readExpressionBy (suc k) d limit = expressionWith text (readNameBy k d) (readPartsBy k d limit)
 
     -- the parts behind the name, up to a span whose end is at or past the limit
     pub readPartsBy : ℕ → ℕ → ℕ → Reader (List Part)
@@ -152,14 +163,10 @@ module _ (text : Bytes) where
       elim o [
         | none ↦ pure []
         | some s ↦ do
-          x ← partWith (readParamBy k d) s
+          x ← partWith text (readParamBy k d) s
           xs ← readPartsBy k d limit
           pure (x ∷ xs)
       ]
-
-  -- enough steps for these spans
-  abbrev pub enough : List Span → ℕ
-  enough s = 3 * length s + 3
 
   -- the readers with enough steps; proofs/Equations has the equations that they satisfy, in which no bound is left
   abbrev pub readName : ℕ → Reader Param
@@ -182,4 +189,4 @@ module _ (text : Bytes) where
   readValue d s = valueWith (readSubexpression d) s
 
   abbrev pub readHash : ℕ → Reader Part
-  readHash d = hashWith (readParam d)
+  readHash d = hashWith text (readParam d)

@@ -1,5 +1,6 @@
 // Reading again, from the links of an expression: its parameters in order, its keys in byte order, a
 // repeated key with its last value, and into a subexpression. (Its block parameter is in its record.)
+// Literals were judged when they were first read.
 use crate::parameter::ExpressionRead;
 use crate::parameter::Fault;
 use crate::parameter::Hash;
@@ -81,7 +82,7 @@ pub fn next_param(text: &[u8], words: &[u32], parts: Parts) -> ParamStep
 {
     let mut rest = parts;
     loop {
-        let p = next_part(text, words, rest);
+        let p = next_part(text, words, rest, false);
         match p {
             PartRead::Part(x, after) => {
                 let given = param_of(x);
@@ -146,7 +147,7 @@ pub fn next_key(text: &[u8], words: &[u32], parts: Parts, bound: Bound) -> KeySt
     let mut rest = parts;
     let mut least = MaybeHash::None;
     loop {
-        let p = next_part(text, words, rest);
+        let p = next_part(text, words, rest, false);
         match p {
             PartRead::Part(x, after) => {
                 least = least_then(text, bound, least, x);
@@ -169,5 +170,5 @@ pub fn next_key(text: &[u8], words: &[u32], parts: Parts, bound: Bound) -> KeySt
 pub fn enter(text: &[u8], words: &[u32], s: Subexpression) -> ExpressionRead
     ensures { λ r. ⌜ SubexpressionIs (now (text .entry)) (now (words .entry)) s r ⌝ }
 {
-    parse_expression(text, words, s.from, s.limit, s.depth)
+    parse_expression(text, words, s.from, s.limit, s.depth, false)
 }

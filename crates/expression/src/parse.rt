@@ -1,6 +1,7 @@
 // The readers of names, parameters, keys, parts, expressions and subexpressions. They call each other
 // in a cycle: an expression holds parameters, and a parameter may hold an expression. At each turn of
-// the cycle fewer spans remain, and in a subexpression less depth.
+// the cycle fewer spans remain, and in a subexpression less depth. `judged` says whether literals are
+// judged: they are where a tag is walked, and not again where what was read is read again.
 use crate::parameter::BlockParam;
 use crate::parameter::BlockRead;
 use crate::parameter::ExpressionRead;
@@ -71,8 +72,8 @@ pub fn parse_block_param(words: &[u32], at: usize, limit: usize) -> BlockRead
 }
 
 // A name: tags 21 to 25, or a path, or a subexpression.
-pub fn parse_name(text: &[u8], words: &[u32], at: usize, depth: usize) -> ParamRead
-    ensures { λ r. ⌜ ParamIs (now (text .entry)) (now (words .entry)) (readName (now (text .entry)) depth (spansFrom (now (words .entry)) at)) (at + 1) r ⌝ }
+pub fn parse_name(text: &[u8], words: &[u32], at: usize, depth: usize, judged: bool) -> ParamRead
+    ensures { λ r. ⌜ ParamIs (now (text .entry)) (now (words .entry)) (readName judged (now (text .entry)) depth (spansFrom (now (words .entry)) at)) (at + 1) r ⌝ }
 {
     let n = next_span(words, at);
     let Next::Span(s) = n else {
@@ -88,34 +89,34 @@ pub fn parse_name(text: &[u8], words: &[u32], at: usize, depth: usize) -> ParamR
             s.number + 1,
         ),
         26 => parse_path(text, words, s, s.number + 1),
-        27 => parse_subexpression(text, words, s.number + 1, s.end, depth),
+        27 => parse_subexpression(text, words, s.number + 1, s.end, depth, judged),
         _ => ParamRead::Failed(Fault::NotAllowed),
     }
 }
 
 // A parameter from its own span.
-fn parse_value(text: &[u8], words: &[u32], s: Span, depth: usize) -> ParamRead
+fn parse_value(text: &[u8], words: &[u32], s: Span, depth: usize, judged: bool) -> ParamRead
     requires { ⌜ s .number < length (now words) ⌝ }
-    ensures { λ r. ⌜ ParamIs (now (text .entry)) (now (words .entry)) (readValue (now (text .entry)) depth s (spansFrom (now (words .entry)) (s .number + 1))) (s .number + 1) r ⌝ }
+    ensures { λ r. ⌜ ParamIs (now (text .entry)) (now (words .entry)) (readValue judged (now (text .entry)) depth s (spansFrom (now (words .entry)) (s .number + 1))) (s .number + 1) r ⌝ }
 {
     let tag = s.tag;
     match tag {
         26 => parse_path(text, words, s, s.number + 1),
-        27 => parse_subexpression(text, words, s.number + 1, s.end, depth),
-        29 => parse_literal(text, words, s, s.number + 1),
+        27 => parse_subexpression(text, words, s.number + 1, s.end, depth, judged),
+        29 => parse_literal(text, words, s, s.number + 1, judged),
         _ => ParamRead::Failed(Fault::NotAllowed),
     }
 }
 
 // A parameter. When read, it skips the spans that end no later than its own.
-pub fn parse_param(text: &[u8], words: &[u32], at: usize, depth: usize) -> ParamRead
-    ensures { λ r. ⌜ ParamIs (now (text .entry)) (now (words .entry)) (readParam (now (text .entry)) depth (spansFrom (now (words .entry)) at)) (at + 1) r ⌝ }
+pub fn parse_param(text: &[u8], words: &[u32], at: usize, depth: usize, judged: bool) -> ParamRead
+    ensures { λ r. ⌜ ParamIs (now (text .entry)) (now (words .entry)) (readParam judged (now (text .entry)) depth (spansFrom (now (words .entry)) at)) (at + 1) r ⌝ }
 {
     let n = own_span(words, at);
     let Next::Span(s) = n else {
         return ParamRead::Failed(Fault::Ended);
     };
-    let v = parse_value(text, words, s, depth);
+    let v = parse_value(text, words, s, depth, judged);
     let ParamRead::Done(parameter, next) = v else {
         return v;
     };
@@ -124,14 +125,14 @@ pub fn parse_param(text: &[u8], words: &[u32], at: usize, depth: usize) -> Param
 }
 
 // A span as key, and then a parameter.
-pub fn parse_hash(text: &[u8], words: &[u32], at: usize, depth: usize) -> HashRead
-    ensures { λ r. ⌜ HashIs (now (text .entry)) (now (words .entry)) depth at r ⌝ }
+pub fn parse_hash(text: &[u8], words: &[u32], at: usize, depth: usize, judged: bool) -> HashRead
+    ensures { λ r. ⌜ HashIs judged (now (text .entry)) (now (words .entry)) depth at r ⌝ }
 {
     let n = next_span(words, at);
     let Next::Span(k) = n else {
         return HashRead::Failed(Fault::Ended);
     };
-    let p = parse_param(text, words, k.number + 1, depth);
+    let p = parse_param(text, words, k.number + 1, depth, judged);
     match p {
         ParamRead::Done(value, next) => HashRead::Done(
             Hash {
@@ -163,8 +164,8 @@ fn part_then(parts: Parts, part: Part, next: usize) -> PartRead
 
 // The first part of a link's. There is none at the end of the list, and none from a span on whose end
 // is at or past the limit.
-pub fn next_part(text: &[u8], words: &[u32], parts: Parts) -> PartRead
-    ensures { λ r. ⌜ PartIs (now (text .entry)) (now (words .entry)) parts r ⌝ }
+pub fn next_part(text: &[u8], words: &[u32], parts: Parts, judged: bool) -> PartRead
+    ensures { λ r. ⌜ PartIs judged (now (text .entry)) (now (words .entry)) parts r ⌝ }
 {
     let n = next_span(words, parts.from);
     let Next::Span(s) = n else {
@@ -176,14 +177,14 @@ pub fn next_part(text: &[u8], words: &[u32], parts: Parts) -> PartRead
     let tag = s.tag;
     match tag {
         28 => {
-            let p = parse_param(text, words, s.number + 1, parts.depth);
+            let p = parse_param(text, words, s.number + 1, parts.depth, judged);
             match p {
                 ParamRead::Done(v, next) => part_then(parts, Part::Param(v), next),
                 ParamRead::Failed(f) => PartRead::Failed(f),
             }
         }
         32 => {
-            let h = parse_hash(text, words, s.number + 1, parts.depth);
+            let h = parse_hash(text, words, s.number + 1, parts.depth, judged);
             match h {
                 HashRead::Done(v, next) => part_then(parts, Part::Hash(v), next),
                 HashRead::Failed(f) => PartRead::Failed(f),
@@ -234,14 +235,15 @@ fn parse_parts(
     left: bool,
     name: Parameter,
     parts: Parts,
+    judged: bool,
 ) -> ExpressionRead
-    ensures { λ r. ⌜ PartsIs (now (text .entry)) (now (words .entry)) left name parts r ⌝ }
+    ensures { λ r. ⌜ PartsIs judged (now (text .entry)) (now (words .entry)) left name parts r ⌝ }
 {
     let mut rest = parts;
     let mut block = BlockParam::None;
     let mut right = false;
     loop {
-        let p = next_part(text, words, rest);
+        let p = next_part(text, words, rest, judged);
         match p {
             PartRead::Part(part, after) => {
                 block = block_then(block, part);
@@ -272,14 +274,15 @@ pub fn parse_expression(
     at: usize,
     limit: usize,
     depth: usize,
+    judged: bool,
 ) -> ExpressionRead
-    ensures { λ r. ⌜ ExpressionIs (now (text .entry)) (now (words .entry)) (readExpression (now (text .entry)) depth limit (spansFrom (now (words .entry)) at)) at r ⌝ }
+    ensures { λ r. ⌜ ExpressionIs (now (text .entry)) (now (words .entry)) (readExpression judged (now (text .entry)) depth limit (spansFrom (now (words .entry)) at)) at r ⌝ }
 {
     let t = parse_tilde(words, at);
     let TildeRead::Done(left, start) = t else {
         return ExpressionRead::Failed(Fault::Ended);
     };
-    let p = parse_name(text, words, start, depth);
+    let p = parse_name(text, words, start, depth, judged);
     match p {
         ParamRead::Done(name, next) => parse_parts(
             text,
@@ -291,6 +294,7 @@ pub fn parse_expression(
                 limit: limit,
                 depth: depth,
             },
+            judged,
         ),
         ParamRead::Failed(f) => ExpressionRead::Failed(f),
     }
@@ -303,14 +307,15 @@ pub fn parse_subexpression(
     at: usize,
     limit: usize,
     depth: usize,
+    judged: bool,
 ) -> ParamRead
-    ensures { λ r. ⌜ ParamIs (now (text .entry)) (now (words .entry)) (readSubexpression (now (text .entry)) depth limit (spansFrom (now (words .entry)) at)) at r ⌝ }
+    ensures { λ r. ⌜ ParamIs (now (text .entry)) (now (words .entry)) (readSubexpression judged (now (text .entry)) depth limit (spansFrom (now (words .entry)) at)) at r ⌝ }
 {
     if depth == 0 {
         return ParamRead::Failed(Fault::OverLimit);
     }
     let inside = depth - 1;
-    let x = parse_expression(text, words, at, limit, inside);
+    let x = parse_expression(text, words, at, limit, inside, judged);
     match x {
         ExpressionRead::Done(e) => ParamRead::Done(
             Parameter::Subexpression(Subexpression {

@@ -13,8 +13,9 @@ use literal::check::check_quoted;
 use support::bytes::part;
 ghost use mathlib.Core.Path.{_≡_};
 ghost use Rattle.json_path.specs.Span.{spansFrom};
-ghost use Rattle.expression.specs.Readers.{readPath, readLiteral};
-ghost use Rattle.expression.specs.Answers.{OwnIs, ParamIs, literalRead};
+ghost use Rattle.literal.specs.Means.{verdictMeans};
+ghost use Rattle.expression.specs.Readers.{judgement, readPath, readLiteral};
+ghost use Rattle.expression.specs.Answers.{OwnIs, literalMeans, ParamIs, literalRead};
 
 // A parameter's own span: one tag 28 in front of it is passed over.
 pub(crate) fn own_span(words: &[u32], at: usize) -> Next
@@ -50,9 +51,29 @@ fn literal_of(v: Verdict, l: Literal, next: usize) -> ParamRead
     }
 }
 
+// The verdict on a literal's text; one that is not judged is kept as it stands.
+fn judge(text: &[u8], l: Literal, judged: bool) -> Verdict
+    ensures { λ r. ⌜ verdictMeans r ≡ judgement judged (literalMeans (now (text .entry)) l) ⌝ }
+{
+    if !judged {
+        return Verdict::Valid;
+    }
+    let kept = part(text, l.start, l.end);
+    if l.quoted {
+        return check_quoted(kept);
+    }
+    check_literal(kept)
+}
+
 // Tag 29 takes the next span; after a 30 one must follow, and a 31 there is taken and requoted.
-pub(crate) fn parse_literal(text: &[u8], words: &[u32], s: Span, at: usize) -> ParamRead
-    ensures { λ r. ⌜ ParamIs (now (text .entry)) (now (words .entry)) (readLiteral (now (text .entry)) s (spansFrom (now (words .entry)) at)) at r ⌝ }
+pub(crate) fn parse_literal(
+    text: &[u8],
+    words: &[u32],
+    s: Span,
+    at: usize,
+    judged: bool,
+) -> ParamRead
+    ensures { λ r. ⌜ ParamIs (now (text .entry)) (now (words .entry)) (readLiteral judged (now (text .entry)) s (spansFrom (now (words .entry)) at)) at r ⌝ }
 {
     let n = next_span(words, at);
     let Next::Span(i) = n else {
@@ -64,7 +85,7 @@ pub(crate) fn parse_literal(text: &[u8], words: &[u32], s: Span, at: usize) -> P
         quoted: false,
     };
     if i.tag != 30 {
-        let u = check_literal(part(text, s.start, s.end));
+        let u = judge(text, own, judged);
         return literal_of(u, own, i.number + 1);
     }
     let m = next_span(words, i.number + 1);
@@ -72,7 +93,7 @@ pub(crate) fn parse_literal(text: &[u8], words: &[u32], s: Span, at: usize) -> P
         return ParamRead::Failed(Fault::Ended);
     };
     if q.tag != 31 {
-        let v = check_literal(part(text, s.start, s.end));
+        let v = judge(text, own, judged);
         return literal_of(v, own, i.number + 1);
     }
     let inner = Literal {
@@ -80,6 +101,6 @@ pub(crate) fn parse_literal(text: &[u8], words: &[u32], s: Span, at: usize) -> P
         end: q.end,
         quoted: true,
     };
-    let w = check_quoted(part(text, q.start, q.end));
+    let w = judge(text, inner, judged);
     literal_of(w, inner, q.number + 1)
 }

@@ -221,7 +221,7 @@ next-part-enum-told t c = search needs
 next-part-returns : (t : ℕ) → next-part-lts.Need-returns (next-part-claims t) (next-part-at t) next-part.Post
 next-part-returns t c =
     let a = c .before .before .before .before .before .args in
-    laws.part-over (a .text .now) (a .words .now) (a .parts)
+    laws.part-over (a .judged) (a .text .now) (a .words .now) (a .parts)
     (json.next-none (c .enum-told .given .1) (c .before .before .next-span .ensures))
 
 next-part-returns-2 : (t : ℕ) → next-part-lts.Need-returns-2 (next-part-claims t) (next-part-at t) next-part.Post
@@ -229,7 +229,7 @@ next-part-returns-2 t c =
     let a = c .before .before .before .before .before .before .before .before .before .args in
     let n = c .before .before .before .before .n in
     let next-span = c .before .before .before .before .before .before .next-span in
-    laws.part-past (a .text .now) (a .words .now) (a .parts) (json.next-found (n .given .1) (next-span .ensures)) (c .if1 .taken)
+    laws.part-past (a .judged) (a .text .now) (a .words .now) (a .parts) (json.next-found (n .given .1) (next-span .ensures)) (c .if1 .taken)
 
 next-part-add-parse-param : (t : ℕ) → next-part-lts.Need-add-parse-param (next-part-claims t) (next-part-at t) next-part.Post
 next-part-add-parse-param t c =
@@ -300,7 +300,7 @@ next-part-returns-3 t c =
     let next-span = c .before .before .before .before .before .before .before .before .before .before .before .next-span in
     let if1 = c .before .before .before .before .before .if1 in
     let match2 = c .before .before .before .before .match2 in
-    laws.part-block-fault (a .text .now) (a .words .now) (a .parts) (json.next-found (n .given .1) (next-span .ensures)) (if1 .left)
+    laws.part-block-fault (a .judged) (a .text .now) (a .words .now) (a .parts) (json.next-found (n .given .1) (next-span .ensures)) (if1 .left)
     (match2 .keys3) (cases.block-ended (c .enum-told2 .given .1) (c .before .before .parse-block-param .ensures))
 
 next-part-part-then-requires-3 : (t : ℕ) → next-part-lts.Need-part-then-requires-3 (next-part-claims t) (next-part-at t) next-part.Post
@@ -334,7 +334,7 @@ next-part-returns-4 t c =
     let if1 = c .before .before .before .before .before .before .before .if1 in
     let match2 = c .before .before .before .before .before .before .match2 in
     let parse-param = c .before .before .before .before .parse-param in
-    laws.part-param (a .text .now) (a .words .now) (a .parts) (json.next-found (n .given .1) (next-span .ensures)) (if1 .left)
+    laws.part-param (a .judged) (a .text .now) (a .words .now) (a .parts) (json.next-found (n .given .1) (next-span .ensures)) (if1 .left)
     (match2 .keys1) (cases.param-done (c .before .before .p .given .1) (parse-param .ensures)) (c .part-then .ensures)
 
 next-part-returns-5 : (t : ℕ) → next-part-lts.Need-returns-5 (next-part-claims t) (next-part-at t) next-part.Post
@@ -345,7 +345,7 @@ next-part-returns-5 t c =
     let if1 = c .before .before .before .before .before .before .if1 in
     let match2 = c .before .before .before .before .before .match2 in
     let parse-param = c .before .before .before .parse-param in
-    laws.part-param-fault (a .text .now) (a .words .now) (a .parts) (json.next-found (n .given .1) (next-span .ensures)) (if1 .left)
+    laws.part-param-fault (a .judged) (a .text .now) (a .words .now) (a .parts) (json.next-found (n .given .1) (next-span .ensures)) (if1 .left)
     (match2 .keys1) (cases.param-failed (c .before .p2 .given .1) (parse-param .ensures))
 
 next-part-returns-6 : (t : ℕ) → next-part-lts.Need-returns-6 (next-part-claims t) (next-part-at t) next-part.Post
@@ -356,7 +356,7 @@ next-part-returns-6 t c =
     let if1 = c .before .before .before .before .before .before .before .if1 in
     let match2 = c .before .before .before .before .before .before .match2 in
     let parse-hash = c .before .before .before .before .parse-hash in
-    laws.part-hash (a .text .now) (a .words .now) (a .parts) (json.next-found (n .given .1) (next-span .ensures)) (if1 .left)
+    laws.part-hash (a .judged) (a .text .now) (a .words .now) (a .parts) (json.next-found (n .given .1) (next-span .ensures)) (if1 .left)
     (match2 .keys2) (cases.hash-done (c .before .before .h .given .1) (parse-hash .ensures)) (c .part-then2 .ensures)
 
 next-part-returns-7 : (t : ℕ) → next-part-lts.Need-returns-7 (next-part-claims t) (next-part-at t) next-part.Post
@@ -367,7 +367,7 @@ next-part-returns-7 t c =
     let if1 = c .before .before .before .before .before .before .if1 in
     let match2 = c .before .before .before .before .before .match2 in
     let parse-hash = c .before .before .before .parse-hash in
-    laws.part-hash-fault (a .text .now) (a .words .now) (a .parts) (json.next-found (n .given .1) (next-span .ensures)) (if1 .left)
+    laws.part-hash-fault (a .judged) (a .text .now) (a .words .now) (a .parts) (json.next-found (n .given .1) (next-span .ensures)) (if1 .left)
     (match2 .keys2) (cases.hash-failed (c .before .h2 .given .1) (parse-hash .ensures))
 
 next-part-returns-8 : (t : ℕ) → next-part-lts.Need-returns-8 (next-part-claims t) (next-part-at t) next-part.Post
@@ -378,7 +378,7 @@ next-part-returns-8 t c =
     let if1 = c .before .before .before .before .before .before .before .if1 in
     let match2 = c .before .before .before .before .before .before .match2 in
     let parse-block-param = c .before .before .before .before .parse-block-param in
-    laws.part-block (a .text .now) (a .words .now) (a .parts) (json.next-found (n .given .1) (next-span .ensures)) (if1 .left)
+    laws.part-block (a .judged) (a .text .now) (a .words .now) (a .parts) (json.next-found (n .given .1) (next-span .ensures)) (if1 .left)
     (match2 .keys3) (cases.block-done (c .before .before .b .given .1) (parse-block-param .ensures)) (c .part-then3 .ensures)
 
 next-part-returns-9 : (t : ℕ) → next-part-lts.Need-returns-9 (next-part-claims t) (next-part-at t) next-part.Post
@@ -387,7 +387,7 @@ next-part-returns-9 t c =
     let n = c .before .before .before .before .before .before .before .n in
     let next-span = c .before .before .before .before .before .before .before .before .before .next-span in
     let if1 = c .before .before .before .if1 in
-    laws.part-tilde (a .text .now) (a .words .now) (a .parts) (json.next-found (n .given .1) (next-span .ensures)) (if1 .left)
+    laws.part-tilde (a .judged) (a .text .now) (a .words .now) (a .parts) (json.next-found (n .given .1) (next-span .ensures)) (if1 .left)
     (c .before .before .match2 .keys4) (c .part-then4 .ensures)
 
 next-part-returns-10 : (t : ℕ) → next-part-lts.Need-returns-10 (next-part-claims t) (next-part-at t) next-part.Post
@@ -397,7 +397,7 @@ next-part-returns-10 t c =
     let next-span = c .before .before .before .before .before .before .before .before .before .next-span in
     let if1 = c .before .before .before .if1 in
     let match2 = c .before .before .match2 in
-    laws.part-skipped (a .text .now) (a .words .now) (a .parts) (json.next-found (n .given .1) (next-span .ensures)) (if1 .left)
+    laws.part-skipped (a .judged) (a .text .now) (a .words .now) (a .parts) (json.next-found (n .given .1) (next-span .ensures)) (if1 .left)
     (match2 .rest .0 .0 .0 .1) (match2 .rest .0 .0 .1) (match2 .rest .0 .1) (match2 .rest .1) (c .part-then5 .ensures)
 
 parse-expression-parse-tilde-requires : (t : ℕ) → parse-expression-lts.Need-parse-tilde-requires (parse-expression-claims t) (parse-expression-at t) parse-expression.Post
@@ -412,7 +412,7 @@ parse-expression-enum-told t c = search needs
 parse-expression-returns : (t : ℕ) → parse-expression-lts.Need-returns (parse-expression-claims t) (parse-expression-at t) parse-expression.Post
 parse-expression-returns t c =
     let a = c .before .before .before .before .before .args in
-    laws.expression-no-tilde (a .text .now) (a .words .now) (a .depth) (a .limit) (a .at)
+    laws.expression-no-tilde (a .judged) (a .text .now) (a .words .now) (a .depth) (a .limit) (a .at)
     (cases.tilde-ended (c .enum-told .given .1) (c .before .before .parse-tilde .ensures))
 
 parse-expression-parse-name-requires : (t : ℕ) → parse-expression-lts.Need-parse-name-requires (parse-expression-claims t) (parse-expression-at t) parse-expression.Post
@@ -442,7 +442,7 @@ parse-expression-returns-2 t c =
     let t = c .before .before .before .before .before .before .t in
     let parse-tilde = c .before .before .before .before .before .before .before .before .parse-tilde in
     let parse-name = c .before .before .before .before .parse-name in
-    laws.expression-parts (a .text .now) (a .words .now) (a .depth) (a .limit) (a .at)
+    laws.expression-parts (a .judged) (a .text .now) (a .words .now) (a .depth) (a .limit) (a .at)
     (cases.tilde-done (t .given .1) (parse-tilde .ensures))
     (cases.param-done (c .before .before .p .given .1) (parse-name .ensures)) (c .parse-parts .ensures)
 
@@ -452,7 +452,7 @@ parse-expression-returns-3 t c =
     let t = c .before .before .before .before .before .t in
     let parse-tilde = c .before .before .before .before .before .before .before .parse-tilde in
     let parse-name = c .before .before .before .parse-name in
-    laws.expression-no-name (a .text .now) (a .words .now) (a .depth) (a .limit) (a .at)
+    laws.expression-no-name (a .judged) (a .text .now) (a .words .now) (a .depth) (a .limit) (a .at)
     (cases.tilde-done (t .given .1) (parse-tilde .ensures)) (cases.param-failed (c .before .p2 .given .1) (parse-name .ensures))
 
 parse-hash-next-span-requires : (t : ℕ) → parse-hash-lts.Need-next-span-requires (parse-hash-claims t) (parse-hash-at t) parse-hash.Post
@@ -467,7 +467,7 @@ parse-hash-enum-told t c = search needs
 parse-hash-returns : (t : ℕ) → parse-hash-lts.Need-returns (parse-hash-claims t) (parse-hash-at t) parse-hash.Post
 parse-hash-returns t c =
     let a = c .before .before .before .before .before .args in
-    laws.hash-none (a .text .now) (a .words .now) (a .depth) (a .at)
+    laws.hash-none (a .judged) (a .text .now) (a .words .now) (a .depth) (a .at)
     (json.next-none (c .enum-told .given .1) (c .before .before .next-span .ensures))
 
 parse-hash-add-parse-param : (t : ℕ) → parse-hash-lts.Need-add-parse-param (parse-hash-claims t) (parse-hash-at t) parse-hash.Post
@@ -494,7 +494,7 @@ parse-hash-returns-2 t c =
     let n = c .before .before .before .before .before .before .n in
     let next-span = c .before .before .before .before .before .before .before .before .next-span in
     let parse-param = c .before .before .before .parse-param in
-    laws.hash-given (a .text .now) (a .words .now) (a .depth) (a .at) (json.next-found (n .given .1) (next-span .ensures))
+    laws.hash-given (a .judged) (a .text .now) (a .words .now) (a .depth) (a .at) (json.next-found (n .given .1) (next-span .ensures))
     (cases.param-done (c .before .p .given .1) (parse-param .ensures))
 
 parse-hash-returns-3 : (t : ℕ) → parse-hash-lts.Need-returns-3 (parse-hash-claims t) (parse-hash-at t) parse-hash.Post
@@ -503,7 +503,7 @@ parse-hash-returns-3 t c =
     let n = c .before .before .before .before .before .before .n in
     let next-span = c .before .before .before .before .before .before .before .before .next-span in
     let parse-param = c .before .before .before .parse-param in
-    laws.hash-fault (a .text .now) (a .words .now) (a .depth) (a .at) (json.next-found (n .given .1) (next-span .ensures))
+    laws.hash-fault (a .judged) (a .text .now) (a .words .now) (a .depth) (a .at) (json.next-found (n .given .1) (next-span .ensures))
     (cases.param-failed (c .before .p2 .given .1) (parse-param .ensures))
 
 parse-name-next-span-requires : (t : ℕ) → parse-name-lts.Need-next-span-requires (parse-name-claims t) (parse-name-at t) parse-name.Post
@@ -518,7 +518,7 @@ parse-name-enum-told t c = search needs
 parse-name-returns : (t : ℕ) → parse-name-lts.Need-returns (parse-name-claims t) (parse-name-at t) parse-name.Post
 parse-name-returns t c =
     let a = c .before .before .before .before .before .args in
-    laws.name-none (a .text .now) (a .words .now) (a .depth) (a .at)
+    laws.name-none (a .judged) (a .text .now) (a .words .now) (a .depth) (a .at)
     (json.next-none (c .enum-told .given .1) (c .before .before .next-span .ensures))
 
 parse-name-add-parse-path : (t : ℕ) → parse-name-lts.Need-add-parse-path (parse-name-claims t) (parse-name-at t) parse-name.Post
@@ -545,8 +545,8 @@ parse-name-parse-subexpression-requires t c κs =
     let pre = c .before .before .before .before .before .before .before .before .pre in
     let w = (json.next-found (n .given .1) (next-span .ensures)) in (omega (arith, pre .0), tt)
 
-parse-name-add-t15 : (t : ℕ) → parse-name-lts.Need-add-t15 (parse-name-claims t) (parse-name-at t) parse-name.Post
-parse-name-add-t15 t c =
+parse-name-add-t16 : (t : ℕ) → parse-name-lts.Need-add-t16 (parse-name-claims t) (parse-name-at t) parse-name.Post
+parse-name-add-t16 t c =
     let n = c .before .before .before .before .before .n in
     let next-span = c .before .before .before .before .before .before .before .next-span in
     let good = c .before .before .before .before .before .before .before .before .before .before .good in
@@ -557,7 +557,7 @@ parse-name-returns-2 t c =
     let a = c .before .before .before .before .before .before .before .before .before .args in
     let n = c .before .before .before .before .n in
     let next-span = c .before .before .before .before .before .before .next-span in
-    laws.name-path (a .text .now) (a .words .now) (a .depth) (a .at) (json.next-found (n .given .1) (next-span .ensures))
+    laws.name-path (a .judged) (a .text .now) (a .words .now) (a .depth) (a .at) (json.next-found (n .given .1) (next-span .ensures))
     (c .before .before .match2 .keys1) (c .parse-path .ensures)
 
 parse-name-returns-3 : (t : ℕ) → parse-name-lts.Need-returns-3 (parse-name-claims t) (parse-name-at t) parse-name.Post
@@ -565,7 +565,7 @@ parse-name-returns-3 t c =
     let a = c .before .before .before .before .before .before .before .before .before .args in
     let n = c .before .before .before .before .n in
     let next-span = c .before .before .before .before .before .before .next-span in
-    laws.name-sub (a .text .now) (a .words .now) (a .depth) (a .at) (json.next-found (n .given .1) (next-span .ensures))
+    laws.name-sub (a .judged) (a .text .now) (a .words .now) (a .depth) (a .at) (json.next-found (n .given .1) (next-span .ensures))
     (c .before .before .match2 .keys2) (c .parse-subexpression .ensures)
 
 parse-name-returns-4 : (t : ℕ) → parse-name-lts.Need-returns-4 (parse-name-claims t) (parse-name-at t) parse-name.Post
@@ -573,7 +573,7 @@ parse-name-returns-4 t c =
     let a = c .before .before .before .before .before .before .before .before .before .before .args in
     let n = c .before .before .before .before .before .n in
     let next-span = c .before .before .before .before .before .before .before .next-span in
-    laws.name-name (a .text .now) (a .words .now) (a .depth) (a .at) (json.next-found (n .given .1) (next-span .ensures))
+    laws.name-name (a .judged) (a .text .now) (a .words .now) (a .depth) (a .at) (json.next-found (n .given .1) (next-span .ensures))
     (omega arith) (omega arith)
 
 parse-name-returns-5 : (t : ℕ) → parse-name-lts.Need-returns-5 (parse-name-claims t) (parse-name-at t) parse-name.Post
@@ -582,7 +582,7 @@ parse-name-returns-5 t c =
     let n = c .before .before .before .n in
     let next-span = c .before .before .before .before .before .next-span in
     let match2 = c .before .match2 in
-    laws.name-other (a .text .now) (a .words .now) (a .depth) (a .at) (json.next-found (n .given .1) (next-span .ensures))
+    laws.name-other (a .judged) (a .text .now) (a .words .now) (a .depth) (a .at) (json.next-found (n .given .1) (next-span .ensures))
     (laws.below-name (n .given .0 .0) (omega arith)) (match2 .rest .0 .1) (match2 .rest .1)
 
 parse-name-returns-6 : (t : ℕ) → parse-name-lts.Need-returns-6 (parse-name-claims t) (parse-name-at t) parse-name.Post
@@ -591,7 +591,7 @@ parse-name-returns-6 t c =
     let n = c .before .before .before .before .n in
     let next-span = c .before .before .before .before .before .before .next-span in
     let match2 = c .before .before .match2 in
-    laws.name-other (a .text .now) (a .words .now) (a .depth) (a .at) (json.next-found (n .given .1) (next-span .ensures))
+    laws.name-other (a .judged) (a .text .now) (a .words .now) (a .depth) (a .at) (json.next-found (n .given .1) (next-span .ensures))
     (laws.above-name (n .given .0 .0) (omega arith)) (match2 .rest .0 .1) (match2 .rest .1)
 
 parse-param-own-span-requires : (t : ℕ) → parse-param-lts.Need-own-span-requires (parse-param-claims t) (parse-param-at t) parse-param.Post
@@ -606,7 +606,7 @@ parse-param-enum-told t c = search needs
 parse-param-returns : (t : ℕ) → parse-param-lts.Need-returns (parse-param-claims t) (parse-param-at t) parse-param.Post
 parse-param-returns t c =
     let a = c .before .before .before .before .before .args in
-    laws.param-none (a .text .now) (a .words .now) (a .depth) (a .at)
+    laws.param-none (a .judged) (a .text .now) (a .words .now) (a .depth) (a .at)
     (cases.own-none (c .enum-told .given .1) (c .before .before .own-span .ensures))
 
 parse-param-parse-value-requires : (t : ℕ) → parse-param-lts.Need-parse-value-requires (parse-param-claims t) (parse-param-at t) parse-param.Post
@@ -627,7 +627,7 @@ parse-param-returns-2 t c =
     let a = c .before .before .before .before .before .before .before .before .before .args in
     let n = c .before .before .before .before .n in
     let own-span = c .before .before .before .before .before .before .own-span in
-    laws.param-refused (a .text .now) (a .words .now) (a .depth) (a .at) (cases.own-found (n .given .1) (own-span .ensures))
+    laws.param-refused (a .judged) (a .text .now) (a .words .now) (a .depth) (a .at) (cases.own-found (n .given .1) (own-span .ensures))
     (c .enum-told2 .given .1) (c .before .before .parse-value .ensures)
 
 parse-param-skip-to-requires : (t : ℕ) → parse-param-lts.Need-skip-to-requires (parse-param-claims t) (parse-param-at t) parse-param.Post
@@ -639,20 +639,20 @@ parse-param-returns-3 t c =
     let n = c .before .before .before .before .before .before .n in
     let own-span = c .before .before .before .before .before .before .before .before .own-span in
     let parse-value = c .before .before .before .before .parse-value in
-    laws.param-given (a .text .now) (a .words .now) (a .depth) (a .at) (cases.own-found (n .given .1) (own-span .ensures))
+    laws.param-given (a .judged) (a .text .now) (a .words .now) (a .depth) (a .at) (cases.own-found (n .given .1) (own-span .ensures))
     (cases.param-done (c .before .before .v .given .1) (parse-value .ensures)) (c .skip-to .ensures)
 
 abbrev parse-parts-Inv-loop : parse-parts-lts.InvT-loop
-parse-parts-Inv-loop text words left name parts rest₀ block₀ right₀ rest block right =
-    laws.Reading text words parts rest block right
+parse-parts-Inv-loop text words left name parts judged rest₀ block₀ right₀ rest block right =
+    laws.Reading judged text words parts rest block right
 
 abbrev parse-parts-μ-loop : parse-parts-lts.MeasureT-loop
-parse-parts-μ-loop text words left name parts rest₀ block₀ right₀ rest block right = length words - rest .from
+parse-parts-μ-loop text words left name parts judged rest₀ block₀ right₀ rest block right = length words - rest .from
 
 parse-parts-loop-holds : (t : ℕ) → parse-parts-lts.Need-loop-holds (parse-parts-claims t) (parse-parts-at t) parse-parts.Post parse-parts-Inv-loop parse-parts-μ-loop
 parse-parts-loop-holds t c =
     let a = c .before .before .args in
-    laws.reading-begins (a .text .now) (a .words .now) (a .parts)
+    laws.reading-begins (a .judged) (a .text .now) (a .words .now) (a .parts)
 
 parse-parts-next-part-requires : (t : ℕ) → parse-parts-lts.Need-next-part-requires (parse-parts-claims t) (parse-parts-at t) parse-parts.Post parse-parts-Inv-loop parse-parts-μ-loop
 parse-parts-next-part-requires t c κs = (omega (arith, (c .before .before .before .pre) .0, (c .loop) .inv .onward), tt)
@@ -703,7 +703,7 @@ parse-parts-returns-2 t c =
 parse-subexpression-returns : (t : ℕ) → parse-subexpression-lts.Need-returns (parse-subexpression-claims t) (parse-subexpression-at t) parse-subexpression.Post
 parse-subexpression-returns t c =
     let a = c .before .before .before .args in
-    laws.sub-deep (a .text .now) (a .words .now) (a .at) (a .limit) (a .depth) (c .if1 .taken)
+    laws.sub-deep (a .judged) (a .text .now) (a .words .now) (a .at) (a .limit) (a .depth) (c .if1 .taken)
 
 parse-subexpression-sub-inside : (t : ℕ) → parse-subexpression-lts.Need-sub-inside (parse-subexpression-claims t) (parse-subexpression-at t) parse-subexpression.Post
 parse-subexpression-sub-inside t c = omega arith
@@ -722,7 +722,7 @@ parse-subexpression-returns-2 t c =
     let a = c .before .before .before .before .before .before .before .args in
     let if1 = c .before .before .before .before .if1 in
     let parse-expression = c .before .before .before .parse-expression in
-    laws.sub-done (a .text .now) (a .words .now) (a .at) (a .limit) (a .depth) (if1 .left)
+    laws.sub-done (a .judged) (a .text .now) (a .words .now) (a .at) (a .limit) (a .depth) (if1 .left)
     (cases.expression-done (c .before .x .given .1) (parse-expression .ensures))
 
 parse-subexpression-returns-3 : (t : ℕ) → parse-subexpression-lts.Need-returns-3 (parse-subexpression-claims t) (parse-subexpression-at t) parse-subexpression.Post
@@ -730,7 +730,7 @@ parse-subexpression-returns-3 t c =
     let a = c .before .before .before .before .before .before .before .args in
     let if1 = c .before .before .before .before .if1 in
     let parse-expression = c .before .before .before .parse-expression in
-    laws.sub-failed (a .text .now) (a .words .now) (a .at) (a .limit) (a .depth) (if1 .left)
+    laws.sub-failed (a .judged) (a .text .now) (a .words .now) (a .at) (a .limit) (a .depth) (if1 .left)
     (cases.expression-failed (c .before .x2 .given .1) (parse-expression .ensures))
 
 parse-value-add-parse-path : (t : ℕ) → parse-value-lts.Need-add-parse-path (parse-value-claims t) (parse-value-at t) parse-value.Post
@@ -766,7 +766,7 @@ parse-value-returns : (t : ℕ) → parse-value-lts.Need-returns (parse-value-cl
 parse-value-returns t c =
     let a = c .before .before .before .before .before .args in
     laws.param-as
-    (laws.value-path (a .text .now) (a .depth) (a .s) (spansFrom (a .words .now) (a .s .number + 1))
+    (laws.value-path (a .judged) (a .text .now) (a .depth) (a .s) (spansFrom (a .words .now) (a .s .number + 1))
     (c .before .before .match .keys1))
     (omega arith) (c .parse-path .ensures)
 
@@ -774,7 +774,7 @@ parse-value-returns-2 : (t : ℕ) → parse-value-lts.Need-returns-2 (parse-valu
 parse-value-returns-2 t c =
     let a = c .before .before .before .before .before .args in
     laws.param-as
-    (laws.value-sub (a .text .now) (a .depth) (a .s) (spansFrom (a .words .now) (a .s .number + 1))
+    (laws.value-sub (a .judged) (a .text .now) (a .depth) (a .s) (spansFrom (a .words .now) (a .s .number + 1))
     (c .before .before .match .keys2))
     (omega arith) (c .parse-subexpression .ensures)
 
@@ -782,7 +782,7 @@ parse-value-returns-3 : (t : ℕ) → parse-value-lts.Need-returns-3 (parse-valu
 parse-value-returns-3 t c =
     let a = c .before .before .before .before .before .args in
     laws.param-as
-    (laws.value-literal (a .text .now) (a .depth) (a .s) (spansFrom (a .words .now) (a .s .number + 1))
+    (laws.value-literal (a .judged) (a .text .now) (a .depth) (a .s) (spansFrom (a .words .now) (a .s .number + 1))
     (c .before .before .match .keys3))
     (omega arith) (c .parse-literal .ensures)
 
@@ -790,7 +790,7 @@ parse-value-returns-4 : (t : ℕ) → parse-value-lts.Need-returns-4 (parse-valu
 parse-value-returns-4 t c =
     let a = c .before .before .before .args in
     record
-    { reads = laws.value-other (a .text .now) (a .depth) (a .s) (spansFrom (a .words .now) (a .s .number + 1)) (c .match .rest .0 .0 .1) (c .match .rest .0 .1) (c .match .rest .1); onward = tt; linked = tt }
+    { reads = laws.value-other (a .judged) (a .text .now) (a .depth) (a .s) (spansFrom (a .words .now) (a .s .number + 1)) (c .match .rest .0 .0 .1) (c .match .rest .0 .1) (c .match .rest .1); onward = tt; linked = tt }
 
 pub +next-part+parse-expression+parse-hash+parse-name+parse-param+parse-parts+parse-subexpression+parse-value-spec :
     {M : Type 1} → statement M
@@ -868,7 +868,7 @@ pub +next-part+parse-expression+parse-hash+parse-name+parse-param+parse-parts+pa
     (parse-name-parse-path-requires t)
     (parse-name-add-parse-subexpression t)
     (parse-name-parse-subexpression-requires t)
-    (parse-name-add-t15 t)
+    (parse-name-add-t16 t)
     (parse-name-returns-2 t)
     (parse-name-returns-3 t)
     (parse-name-returns-4 t)
