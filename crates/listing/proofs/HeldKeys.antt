@@ -71,54 +71,54 @@ module _ (text : Bytes) (words : List ℕ) (from : ℕ) (cells : List ℕ) (n : 
 -- ---- the entry of a part that is a key
 
 module _ (text : Bytes) (d : ℕ) where
-  pub hash-key : (r : List Span) {k : Bytes} {v : Param} {t : List Span} → readHash text d r ≡ done (hash k v) t → firstText text r ≡ k
+  pub hash-key : (r : List Span) {k : Bytes} {v : Param} {t : List Span} → readHash false text d r ≡ done (hash k v) t → firstText text r ≡ k
   hash-key [] e = cc
-  hash-key (s ∷ r) {k} {v} {t} e = go (readParam text d r) e
+  hash-key (s ∷ r) {k} {v} {t} e = go (readParam false text d r) e
     where
       go : (o : Read Param) → andThen o (λ w. pure (hash (own text s) w)) ≡ done (hash k v) t → own text s ≡ k
       go (done w u) q = cc
       go (failed x) q = cc
 
   -- a part that is a key stands behind a tag 32
-  part-hash : (s : Span) (r : List Span) {k : Bytes} {v : Param} {t : List Span} → partWith text (readParam text d) s r ≡ done (hash k v) t
-      → readHash text d r ≡ done (hash k v) t
+  part-hash : (s : Span) (r : List Span) {k : Bytes} {v : Param} {t : List Span} → partWith text (readParam false text d) s r ≡ done (hash k v) t
+      → readHash false text d r ≡ done (hash k v) t
   part-hash s r {k} {v} {t} e = go (isTag 28 s) (isTag 32 s) (isTag 33 s) (isTag 35 s) e
     where
-      no-param : (o : Read Param) → andThen o (λ p. pure (parameter p)) ≡ done (hash k v) t → readHash text d r ≡ done (hash k v) t
+      no-param : (o : Read Param) → andThen o (λ p. pure (parameter p)) ≡ done (hash k v) t → readHash false text d r ≡ done (hash k v) t
       no-param (done p u) q = cc
       no-param (failed x) q = cc
 
-      no-block : (o : Read spec.BlockParam) → andThen o (λ b. pure (block b)) ≡ done (hash k v) t → readHash text d r ≡ done (hash k v) t
+      no-block : (o : Read spec.BlockParam) → andThen o (λ b. pure (block b)) ≡ done (hash k v) t → readHash false text d r ≡ done (hash k v) t
       no-block (done b u) q = cc
       no-block (failed x) q = cc
 
       go : (a b c f : Bool)
-          → if a (readParam text d >>= λ p. pure (parameter p)) (if b (hashWith text (readParam text d)) (if c (readBlockParam text (s .end) >>= λ z. pure (block z)) (if f (pure rightTilde) (pure skipped)))) r ≡ done (hash k v) t
-          → readHash text d r ≡ done (hash k v) t
-      go true b c f q = no-param (readParam text d r) q
+          → if a (readParam false text d >>= λ p. pure (parameter p)) (if b (hashWith text (readParam false text d)) (if c (readBlockParam text (s .end) >>= λ z. pure (block z)) (if f (pure rightTilde) (pure skipped)))) r ≡ done (hash k v) t
+          → readHash false text d r ≡ done (hash k v) t
+      go true b c f q = no-param (readParam false text d r) q
       go false true c f q = q
       go false false true f q = no-block (readBlockParam text (s .end) r) q
       go false false false true q = cc
       go false false false false q = cc
 
-  first-hash : (limit : ℕ) (sp : List Span) {k : Bytes} {v : Param} {ys : List spec.Part} → Reads (readParts text d limit sp) (hash k v ∷ ys)
-      → Reads (readHash text d (drop 1 sp)) (hash k v)
-  first-hash limit [] h = let e = sym (parts-end text d limit) ∙ h .reads in let z : _≡_ {A = ℕ} 0 1 = cc in absurd (omega arith)
+  first-hash : (limit : ℕ) (sp : List Span) {k : Bytes} {v : Param} {ys : List spec.Part} → Reads (readParts false text d limit sp) (hash k v ∷ ys)
+      → Reads (readHash false text d (drop 1 sp)) (hash k v)
+  first-hash limit [] h = let e = sym (parts-end false text d limit) ∙ h .reads in let z : _≡_ {A = ℕ} 0 1 = cc in absurd (omega arith)
   first-hash limit (s ∷ r) {k} {v} {ys} h = go (ltb (s .end) limit) refl
     where
       same : {x : spec.Part} (o : Read (List spec.Part)) → andThen o (λ xs. pure (x ∷ xs)) ≡ done (hash k v ∷ ys) (h .rest) → x ≡ hash k v
       same (done xs t) q = cc
       same (failed f) q = cc
 
-      read : (o : Read spec.Part) → partWith text (readParam text d) s r ≡ o
-          → andThen o (λ x. readParts text d limit >>= λ xs. pure (x ∷ xs)) ≡ done (hash k v ∷ ys) (h .rest)
-          → Reads (readHash text d r) (hash k v)
-      read (done x t) e q = record { rest = t; reads = part-hash s r (e ∙ ap (λ z. done z t) (same (readParts text d limit t) q)) }
+      read : (o : Read spec.Part) → partWith text (readParam false text d) s r ≡ o
+          → andThen o (λ x. readParts false text d limit >>= λ xs. pure (x ∷ xs)) ≡ done (hash k v ∷ ys) (h .rest)
+          → Reads (readHash false text d r) (hash k v)
+      read (done x t) e q = record { rest = t; reads = part-hash s r (e ∙ ap (λ z. done z t) (same (readParts false text d limit t) q)) }
       read (failed f) e q = let z : _≡_ {A = ℕ} 0 1 = cc in absurd (omega arith)
 
-      go : (u : Bool) → ltb (s .end) limit ≡ u → Reads (readHash text d r) (hash k v)
-      go true e = read (partWith text (readParam text d) s r) refl (sym (parts-next text d limit s r e) ∙ h .reads)
-      go false e = let q = sym (parts-stop text d limit s r e) ∙ h .reads in let z : _≡_ {A = ℕ} 0 1 = cc in absurd (omega arith)
+      go : (u : Bool) → ltb (s .end) limit ≡ u → Reads (readHash false text d r) (hash k v)
+      go true e = read (partWith text (readParam false text d) s r) refl (sym (parts-next false text d limit s r e) ∙ h .reads)
+      go false e = let q = sym (parts-stop false text d limit s r e) ∙ h .reads in let z : _≡_ {A = ℕ} 0 1 = cc in absurd (omega arith)
 
 -- ---- going through the parts: the first n cells hold the keys of those before `rest`
 
@@ -128,10 +128,10 @@ pub record Holding (text : Bytes) (words : List ℕ) (p rest : Parts) (cells : L
   pub read : All (EntryRead text words (p .depth)) (take n cells)
   pub deep : rest .depth ≡ p .depth
   pub left : List spec.Part
-  pub reads : Reads (partsRead text words rest) left
+  pub reads : Reads (partsRead false text words rest) left
   pub keys : Reads (keysRead text words p) (onto (entryKey text words) (entryValue text words (p .depth)) (take n cells) (keysOf left))
 
-pub holding-begins : (text : Bytes) (words : List ℕ) (p : Parts) (cells : List ℕ) → Readable (partsRead text words p)
+pub holding-begins : (text : Bytes) (words : List ℕ) (p : Parts) (cells : List ℕ) → Readable (partsRead false text words p)
     → Holding text words p p cells 0
 holding-begins text words p cells h = record {
   fits = omega arith;
@@ -150,7 +150,7 @@ module _ {text : Bytes} {words : List ℕ} {p rest : Parts} {cells : List ℕ} {
   abbrev v : ℕ → Param
   v = entryValue text words (p .depth)
 
-  pub holding-ends : {t : List Span} → partsRead text words rest ≡ done [] t → KeysHeld text words p cells n
+  pub holding-ends : {t : List Span} → partsRead false text words rest ≡ done [] t → KeysHeld text words p cells n
   unfolding keysOf
   holding-ends {t} e =
       let q : g .left ≡ [] = one (g .reads) (record { rest = t; reads = e }) in
@@ -161,12 +161,12 @@ module _ {text : Bytes} {words : List ℕ} {p rest : Parts} {cells : List ℕ} {
       }
 
   -- after the part x the entries are es
-  module _ {x : Part} {q : Parts} (i : FirstPart text words rest x q) {es more : List ℕ} {m : ℕ} (h : CellsHold es more (Held.Keys m)) where
+  module _ {x : Part} {q : Parts} (i : FirstPart false text words rest x q) {es more : List ℕ} {m : ℕ} (h : CellsHold es more (Held.Keys m)) where
     next : InOrder f es → All (EntryRead text words (p .depth)) es
         → ((ys : List spec.Part) → onto f v (take n cells) (keysOf (partMeans text words x ∷ ys)) ≡ onto f v es (keysOf ys))
         → Holding text words p q more m
     next o a k =
-        let t = tail (λ ys. partMeans text words x ∷ ys) (partsRead text words q) (along (i .first) (g .reads)) in
+        let t = tail (λ ys. partMeans text words x ∷ ys) (partsRead false text words q) (along (i .first) (g .reads)) in
         let e : es ≡ take m more = sym (h .means .1) in
         record {
           fits = h .means .0;
@@ -179,13 +179,13 @@ module _ {text : Bytes} {words : List ℕ} {p rest : Parts} {cells : List ℕ} {
         }
 
   -- the part is a key: its entry can be read, and put in gives it
-  module _ {h : Hash} {q : Parts} (i : FirstPart text words rest (Part.Hash h) q) {e : ℕ} (is : EntryIs words (rest .from) e) where
-    key-read : Reads (readHash text (p .depth) (spansFrom words e)) (hashMeans text words h)
+  module _ {h : Hash} {q : Parts} (i : FirstPart false text words rest (Part.Hash h) q) {e : ℕ} (is : EntryIs words (rest .from) e) where
+    key-read : Reads (readHash false text (p .depth) (spansFrom words e)) (hashMeans text words h)
     key-read =
-        let t = tail (λ ys. hashMeans text words h ∷ ys) (partsRead text words q) (along (i .first) (g .reads)) in
-        let b = first-hash text (rest .depth) (rest .limit) (spansFrom words (rest .from)) (subst (λ ys. Reads (partsRead text words rest) ys) (t .same) (g .reads)) in
-        let c = subst (λ sp. Reads (readHash text (rest .depth) sp) (hashMeans text words h)) (sym (is .behind)) b in
-        subst (λ d. Reads (readHash text d (spansFrom words e)) (hashMeans text words h)) (g .deep) c
+        let t = tail (λ ys. hashMeans text words h ∷ ys) (partsRead false text words q) (along (i .first) (g .reads)) in
+        let b = first-hash text (rest .depth) (rest .limit) (spansFrom words (rest .from)) (subst (λ ys. Reads (partsRead false text words rest) ys) (t .same) (g .reads)) in
+        let c = subst (λ sp. Reads (readHash false text (rest .depth) sp) (hashMeans text words h)) (sym (is .behind)) b in
+        subst (λ d. Reads (readHash false text d (spansFrom words e)) (hashMeans text words h)) (g .deep) c
 
     key-put : (ys : List spec.Part) → onto f v (take n cells) (keysOf (hashMeans text words h ∷ ys)) ≡ onto f v (putEntry f e (take n cells)) (keysOf ys)
     unfolding keysOf
@@ -198,7 +198,7 @@ module _ {text : Bytes} {words : List ℕ} {p rest : Parts} {cells : List ℕ} {
         ∙ ap (λ z. onto f v es (insertKey z (v e) (keysOf ys))) k
         ∙ ap (λ z. onto f v es (insertKey (nameMeans text (h .key)) z (keysOf ys))) w)
 
-  keyed : {h : Hash} {q : Parts} → FirstPart text words rest (Part.Hash h) q → {more : List ℕ} {m : ℕ}
+  keyed : {h : Hash} {q : Parts} → FirstPart false text words rest (Part.Hash h) q → {more : List ℕ} {m : ℕ}
       → EntryHeld text words (rest .from) (take n cells) more (Held.Keys m) → Holding text words p q more m
   keyed {h} i a =
       let r = key-read i (a .is) in
@@ -206,7 +206,7 @@ module _ {text : Bytes} {words : List ℕ} {p rest : Parts} {cells : List ℕ} {
       (all-put (EntryRead text words (p .depth)) f (a .entry) (take n cells) (record { value = hashMeans text words h; rest = r .rest; reads = r .reads }) (g .read))
       (key-put i (a .is))
 
-  pub holding-on : (x : Part) {q : Parts} → FirstPart text words rest x q → {more : List ℕ} {m : ℕ}
+  pub holding-on : (x : Part) {q : Parts} → FirstPart false text words rest x q → {more : List ℕ} {m : ℕ}
       → PartHeld text words (rest .from) x (take n cells) more (Held.Keys m) → Holding text words p q more m
   unfolding keysOf
   holding-on (Part.Hash h) i a = keyed i (a .means)
@@ -227,10 +227,10 @@ module _ {text : Bytes} {words : List ℕ} {p rest : Parts} {cells : List ℕ} {
   no-key : {more : List ℕ} → length more ≡ length cells → CellsHold (take n cells) more Held.TooMany → ⊥
   no-key e h = let l = length-take-le n cells (g .fits) in absurd (omega (arith, h .means, g .fits))
 
-  pub holding-full : (x : Part) {q : Parts} → FirstPart text words rest x q → {more : List ℕ} → length more ≡ length cells
+  pub holding-full : (x : Part) {q : Parts} → FirstPart false text words rest x q → {more : List ℕ} → length more ≡ length cells
       → PartHeld text words (rest .from) x (take n cells) more Held.TooMany → length more < keyCount (readOr noKeys (keysRead text words p))
   holding-full (Part.Hash h) {q} i e a =
-      let t = tail (λ ys. hashMeans text words h ∷ ys) (partsRead text words q) (along (i .first) (g .reads)) in
+      let t = tail (λ ys. hashMeans text words h ∷ ys) (partsRead false text words q) (along (i .first) (g .reads)) in
       let b = a .means in
       full (b .hold) (order-put f (b .entry) (take n cells) (g .order)) (t .value)
       (ap (λ ys. onto f v (take n cells) (keysOf ys)) (t .same) ∙ key-put i (b .is) (t .value))

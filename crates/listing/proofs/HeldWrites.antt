@@ -4,6 +4,7 @@ use native.Mathlib.Omega.{arith}
 use native.Mathlib.Numerals.{add-one}
 use mathlib.Core.Path.{_≡_, refl, sym, ap, subst, _∙_}
 use mathlib.Core.List.{List}
+use mathlib.Core.Bool.{false}
 use lib.ListN.{length, getD, take, drop, drop-of-length-le}
 use lib.Seq.{drop-cons}
 use Rattle.support.specs.Bytes.{Bytes}
@@ -46,17 +47,17 @@ held-begins text words d es l at h = record { fits = omega arith; whole = λ k r
 
 -- an entry that can be read is read
 pub entry-read : (text : Bytes) (words : List ℕ) (d : ℕ) (es : List ℕ) (i : ℕ) {r : HashRead} {f : Fault} → All (EntryRead text words d) es → i < length es
-    → r ≡ HashRead.Failed f → HashIs text words d (getD es i 0) r → ⊥
+    → r ≡ HashRead.Failed f → HashIs false text words d (getD es i 0) r → ⊥
 entry-read text words d es i a l e h =
     let o = all-at (EntryRead text words d) es i a l in
-    not-failed (record { rest = o .rest; reads = o .reads }) ((subst (λ z. HashIs text words d (getD es i 0) z) e h) .reads)
+    not-failed (record { rest = o .rest; reads = o .reads }) ((subst (λ z. HashIs false text words d (getD es i 0) z) e h) .reads)
 
 module _ {text : Bytes} {words : List ℕ} {d : ℕ} {es : List ℕ} {l m : Bytes} {at i q : ℕ} (g : HeldLeft text words d es l at i m q) where
-  module _ {h : Hash} {n : ℕ} {r : HashRead} (b : i < length es) (e : r ≡ HashRead.Done h n) (u : HashIs text words d (getD es i 0) r) where
+  module _ {h : Hash} {n : ℕ} {r : HashRead} (b : i < length es) (e : r ≡ HashRead.Done h n) (u : HashIs false text words d (getD es i 0) r) where
     next : heldKeys text words d (drop i es) ≡ key (nameMeans text (h .key)) (paramMeans text words (h .value)) (heldKeys text words d (drop (i + 1) es))
     unfolding keysBy
     next =
-        let o = (subst (λ z. HashIs text words d (getD es i 0) z) e u) .reads in
+        let o = (subst (λ z. HashIs false text words d (getD es i 0) z) e u) .reads in
         let x : ℕ = getD es i 0 in
         let rest : Keys = heldKeys text words d (drop (i + 1) es) in
         rw (add-one i) (ap (heldKeys text words d) (drop-cons es i 0 b))

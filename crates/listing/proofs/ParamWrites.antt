@@ -105,7 +105,7 @@ sub-written {l = l} {k = k} {at = at} {r = r} i h a b c = subst (λ z. Written (
 
 -- a link that cannot be read: an empty call
 pub sub-empty : (text : Bytes) (words : List ℕ) (s : Subexpression) {e : Fault} {l m : Bytes} {at r : ℕ}
-    → readExpression text (s .depth) (s .limit) (spansFrom words (s .from)) ≡ failed e
+    → readExpression false text (s .depth) (s .limit) (spansFrom words (s .from)) ≡ failed e
     → Written (ascii "[sub\n[name \"\"]\n]\n") l at m r
     → Written (writeForm (paramForm (paramMeans text words (Parameter.Subexpression s)))) l at m r
 unfolding paramMeans paramForm writeForm writeHead writeFields writeField quoted escaped
@@ -120,7 +120,7 @@ abbrev pub keysAll : Bytes → List ℕ → Parts → Bound → ℕ
 keysAll text words p b = keysSize (readOr noKeys (keysLeft text words p b))
 
 -- a call is as large as what it holds
-pub call-size : (text : Bytes) (words : List ℕ) (n : Parameter) (p : Parts) → Readable (partsRead text words p)
+pub call-size : (text : Bytes) (words : List ℕ) (n : Parameter) (p : Parts) → Readable (partsRead false text words p)
     → callSize (callMeans text words n p) ≡ paramSize (paramMeans text words n) + paramsAll text words p + keysAll text words p Bound.None
 call-size text words n p h =
     let a = ap callSize (call-known text words p h n) in
@@ -143,7 +143,7 @@ pub record ParamsLeft (text : Bytes) (words : List ℕ) (p : Parts) (l : Bytes) 
   pub same : length m ≡ length l
   pub position : q ≤ largest
 
-pub params-begin : (text : Bytes) (words : List ℕ) (p : Parts) (l : Bytes) (at : ℕ) → at ≤ largest → Readable (partsRead text words p)
+pub params-begin : (text : Bytes) (words : List ℕ) (p : Parts) (l : Bytes) (at : ℕ) → at ≤ largest → Readable (partsRead false text words p)
     → ParamsLeft text words p l at p l at
 params-begin text words p l at g h =
     let k = params-known text words p h in
@@ -194,7 +194,7 @@ pub record KeysLeft (text : Bytes) (words : List ℕ) (p : Parts) (l : Bytes) (a
   pub same : length m ≡ length l
   pub position : q ≤ largest
 
-pub keys-begin : (text : Bytes) (words : List ℕ) (p : Parts) (l : Bytes) (at : ℕ) → at ≤ largest → Readable (partsRead text words p)
+pub keys-begin : (text : Bytes) (words : List ℕ) (p : Parts) (l : Bytes) (at : ℕ) → at ≤ largest → Readable (partsRead false text words p)
     → KeysLeft text words p l at Bound.None l at
 keys-begin text words p l at g h =
     let k = keys-known text words p h in

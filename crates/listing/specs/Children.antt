@@ -1,6 +1,7 @@
 -- The children that an expression gives, as it is read at a link.
 use Prim.Native.Nat.{ℕ}
 use mathlib.Core.List.{List}
+use mathlib.Core.Bool.{false}
 use Rattle.support.specs.Bytes.{Bytes}
 use Rattle.json_path.specs.Span.{spansFrom}
 use Rattle.expression.specs.Expression.{Expression, BlockParam, noBlockParam}
@@ -16,9 +17,9 @@ abbrev pub blockOr : Read Expression → BlockParam
 blockOr (done x r) = x .blockParam
 blockOr (failed e) = noBlockParam
 
--- what is read at a link
+-- what is read again at a link
 abbrev pub expressionAt : Bytes → List ℕ → Subexpression → Read Expression
-expressionAt text words s = readExpression text (s .depth) (s .limit) (spansFrom words (s .from))
+expressionAt text words s = readExpression false text (s .depth) (s .limit) (spansFrom words (s .from))
 
 -- name, parameters, keys in byte order
 unfoldable pub decoratorChildren : Bytes → List ℕ → Subexpression → Forms

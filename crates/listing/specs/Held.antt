@@ -1,4 +1,4 @@
--- An expression's keys held in byte order. An entry is a number behind a tag 32, from which the key and its value are read.
+-- An expression's keys held in byte order. An entry is a number behind a tag 32, from which the key and its value are read again.
 use Prim.Native.Nat.{ℕ, _+_, _≤_, _<_}
 use mathlib.Core.Path.{_≡_}
 use mathlib.Core.List.{List, [], _∷_}
@@ -38,11 +38,11 @@ entryKey text words e = firstText text (spansFrom words e)
 
 -- its value, with so many subexpressions allowed inside one another
 abbrev pub entryValue : Bytes → List ℕ → ℕ → ℕ → Param
-entryValue text words d e = valueOf (readHash text d (spansFrom words e))
+entryValue text words d e = valueOf (readHash false text d (spansFrom words e))
 
 -- it can be read
 abbrev pub EntryRead : Bytes → List ℕ → ℕ → ℕ → Type 0
-EntryRead text words d e = Readable (readHash text d (spansFrom words e))
+EntryRead text words d e = Readable (readHash false text d (spansFrom words e))
 
 -- e is the number behind the first span from number `from` on
 pub record EntryIs (words : List ℕ) (from e : ℕ) : Type 0 where

@@ -55,7 +55,7 @@ pub fn write_decorator(
 ) -> usize
     ensures { λ r. ⌜ Written (writeForms (decoratorChildren (now (text .entry)) (now (words .entry)) link)) (now (out .entry)) at (now (out .exit)) r ⌝ }
 {
-    let r = parse_expression(text, words, link.from, link.limit, link.depth);
+    let r = parse_expression(text, words, link.from, link.limit, link.depth, false);
     let ExpressionRead::Done(x) = r else {
         return put_bytes(out, at, b"[name \"\"]\n");
     };
@@ -74,7 +74,7 @@ pub fn write_helper(
 ) -> usize
     ensures { λ r. ⌜ Written (writeForms (helperChildren (now (text .entry)) (now (words .entry)) link)) (now (out .entry)) at (now (out .exit)) r ⌝ }
 {
-    let r = parse_expression(text, words, link.from, link.limit, link.depth);
+    let r = parse_expression(text, words, link.from, link.limit, link.depth, false);
     let ExpressionRead::Done(x) = r else {
         return put_bytes(out, at, b"[name \"\"]\n");
     };

@@ -11,6 +11,7 @@ use support::bytes::precedes;
 use support::bytes::same_bytes;
 ghost use mathlib.Core.Path.{_≡_};
 ghost use mathlib.Core.List.{_∷_};
+ghost use mathlib.Core.Bool.{false};
 ghost use Prim.Native.Nat.{_+_, _-_, _≤_, _<_};
 ghost use lib.ListN.{length, take, drop};
 ghost use lib.Seq.{paste};
@@ -127,13 +128,13 @@ fn hold_part(
 
 // The keys of a link's parts, each with its last value.
 pub(crate) fn hold_keys(text: &[u8], words: &[u32], parts: Parts, held: &mut [usize]) -> Held
-    requires { ⌜ Readable (partsRead (now text) (now words) parts) ⌝ }
+    requires { ⌜ Readable (partsRead false (now text) (now words) parts) ⌝ }
     ensures { λ r. ⌜ HeldIs (now (text .entry)) (now (words .entry)) parts (now (held .exit)) r ⌝ }
 {
     let mut rest = parts;
     let mut count = 0;
     loop {
-        let p = next_part(text, words, rest);
+        let p = next_part(text, words, rest, false);
         match p {
             PartRead::Part(x, after) => {
                 let h = hold_part(text, words, rest.from, x, held, count);

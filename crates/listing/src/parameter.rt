@@ -23,6 +23,7 @@ use expression::parse::parse_hash;
 use json_path::path::Name;
 use support::bytes::part;
 ghost use mathlib.Core.List.{_++_};
+ghost use mathlib.Core.Bool.{false};
 ghost use Rattle.support.specs.Bytes.{ascii};
 ghost use Rattle.json_path.specs.Answers.{nameMeans};
 ghost use Rattle.expression.specs.Expression.{name, literal, noParams, noKeys, key};
@@ -113,7 +114,7 @@ pub(crate) fn write_call(
     name: Parameter,
     parts: Parts,
 ) -> usize
-    requires { ⌜ Readable (partsRead (now text) (now words) parts) ⌝ }
+    requires { ⌜ Readable (partsRead false (now text) (now words) parts) ⌝ }
     ensures { λ r. ⌜ Written (writeForms (callForms (callMeans (now (text .entry)) (now (words .entry)) name parts) nil)) (now (out .entry)) at (now (out .exit)) r ⌝ }
 {
     let p = write_param(out, at, text, words, name);
@@ -122,7 +123,7 @@ pub(crate) fn write_call(
 }
 
 fn write_params(out: &mut [u8], at: usize, text: &[u8], words: &[u32], parts: Parts) -> usize
-    requires { ⌜ Readable (partsRead (now text) (now words) parts) ⌝ }
+    requires { ⌜ Readable (partsRead false (now text) (now words) parts) ⌝ }
     ensures { λ r. ⌜ Written (writeForms (paramForms (readOr noParams (paramsRead (now (text .entry)) (now (words .entry)) parts)) nil)) (now (out .entry)) at (now (out .exit)) r ⌝ }
 {
     let mut p = at;
@@ -146,7 +147,7 @@ fn write_params(out: &mut [u8], at: usize, text: &[u8], words: &[u32], parts: Pa
 
 // Most calls have few keys.
 fn write_keys(out: &mut [u8], at: usize, text: &[u8], words: &[u32], parts: Parts) -> usize
-    requires { ⌜ Readable (partsRead (now text) (now words) parts) ⌝ }
+    requires { ⌜ Readable (partsRead false (now text) (now words) parts) ⌝ }
     ensures { λ r. ⌜ Written (writeForms (keyForms (readOr noKeys (keysRead (now (text .entry)) (now (words .entry)) parts)) nil)) (now (out .entry)) at (now (out .exit)) r ⌝ }
 {
     let mut held = [0usize; 16];
@@ -159,7 +160,7 @@ fn write_keys(out: &mut [u8], at: usize, text: &[u8], words: &[u32], parts: Part
 
 // A key takes three spans: a list of so many spans as are allowed has no more keys than these cells.
 fn write_many_keys(out: &mut [u8], at: usize, text: &[u8], words: &[u32], parts: Parts) -> usize
-    requires { ⌜ Readable (partsRead (now text) (now words) parts) ⌝ }
+    requires { ⌜ Readable (partsRead false (now text) (now words) parts) ⌝ }
     ensures { λ r. ⌜ Written (writeForms (keyForms (readOr noKeys (keysRead (now (text .entry)) (now (words .entry)) parts)) nil)) (now (out .entry)) at (now (out .exit)) r ⌝ }
 {
     let mut held = [0usize; 1366];
@@ -185,7 +186,7 @@ fn write_held(
     let mut p = at;
     let mut i = 0;
     while i < held.len() {
-        let r = parse_hash(text, words, held[i], depth);
+        let r = parse_hash(text, words, held[i], depth, false);
         let HashRead::Done(hash, _) = r else {
             return p;
         };
@@ -197,7 +198,7 @@ fn write_held(
 
 // However many keys: the parts are read again for each, the least that is left.
 fn write_least_keys(out: &mut [u8], at: usize, text: &[u8], words: &[u32], parts: Parts) -> usize
-    requires { ⌜ Readable (partsRead (now text) (now words) parts) ⌝ }
+    requires { ⌜ Readable (partsRead false (now text) (now words) parts) ⌝ }
     ensures { λ r. ⌜ Written (writeForms (keyForms (readOr noKeys (keysRead (now (text .entry)) (now (words .entry)) parts)) nil)) (now (out .entry)) at (now (out .exit)) r ⌝ }
 {
     let mut p = at;
