@@ -155,8 +155,8 @@ def requoted(inner):
 
 
 class Reader:
-    def __init__(self, text):
-        self.text = text
+    def __init__(self, text, judged):
+        self.text, self.judged = text, judged
 
     def own(self, start, end):
         return self.text[start:end] if start <= end else b""
@@ -204,16 +204,20 @@ class Reader:
             return self.subexpression(rest, s.end, depth)
         raise Fault(" not-allowed")
 
+    def judge(self, text):
+        if self.judged:
+            check(text)
+
     def literal(self, s, rest):
         i, rest = self.next(rest)
         if i.tag == 30:
             q = self.next(rest)[0]
             if q.tag == 31:
                 inner = self.own(q.start, q.end)
-                check(requoted(inner))
+                self.judge(requoted(inner))
                 return (b" literal 1 <" + inner + b">", None), rest[1:]
         own = self.own(s.start, s.end)
-        check(own)
+        self.judge(own)
         return (b" literal 0 <" + own + b">", None), rest
 
     def param(self, spans, depth):
@@ -295,7 +299,7 @@ def answer(call, show):
 def lines(text, words):
     count = len(words) // 3
     spans = [Span(k, *words[3 * k : 3 * k + 3]) for k in range(count)]
-    r = Reader(text)
+    r, again = Reader(text, True), Reader(text, False)
     out = [b"count %d" % count]
 
     def behind(k):
@@ -327,7 +331,7 @@ def lines(text, words):
 
     for k in range(count + 1):
         out.append(at(k, k % 3))
-        out.append(b"%d entered" % k + answer(lambda: r.expression(behind(k), end(k), DEPTH), lambda v: v))
+        out.append(b"%d entered" % k + answer(lambda: again.expression(behind(k), end(k), DEPTH), lambda v: v))
     out.append(at(LARGEST, LARGEST))
     return out
 

@@ -60,7 +60,6 @@ class Lister(expressions.Reader):
             q = self.next(rest)[0]
             if q.tag == 31:
                 kept, rest = expressions.requoted(self.own(q.start, q.end)), rest[1:]
-        expressions.check(kept)
         return (b"[lit " + quoted(kept) + b"]\n", None), rest
 
     def children(self, spans, limit, depth):
@@ -81,7 +80,7 @@ def written(text, words):
     for s in [s for s in spans if 5 <= s.tag <= 18 or s.tag == 27]:
         behind = [x for x in spans[s.number + 1 :] if x.tag != 4]
         try:
-            call, block = Lister(text).children(behind, s.end, expressions.DEPTH)[0]
+            call, block = Lister(text, False).children(behind, s.end, expressions.DEPTH)[0]
         except expressions.Fault:
             call, block = b'[name ""]\n', b""
         out += b"%d decorator %d\n" % (s.number, len(call)) + call

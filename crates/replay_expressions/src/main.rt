@@ -264,23 +264,23 @@ fn show_at(text: &[u8], words: &[u32], k: usize, depth: usize) {
     show(b" | block");
     show_block_read(text, words, parse_block_param(words, at, s.end));
     show(b" | name");
-    show_param_read(text, words, parse_name(text, words, at, depth));
+    show_param_read(text, words, parse_name(text, words, at, depth, true));
     show(b" | param");
-    show_param_read(text, words, parse_param(text, words, at, depth));
+    show_param_read(text, words, parse_param(text, words, at, depth, true));
     show(b" | hash");
-    show_hash_read(text, words, parse_hash(text, words, at, depth));
+    show_hash_read(text, words, parse_hash(text, words, at, depth, true));
     show(b" | sub");
     show_param_read(
         text,
         words,
-        parse_subexpression(text, words, at, s.end, depth),
+        parse_subexpression(text, words, at, s.end, depth, true),
     );
     show(b" | expression");
-    show_expression_read(text, words, parse_expression(text, words, at, s.end, depth));
+    show_expression_read(text, words, parse_expression(text, words, at, s.end, depth, true));
     show(b"\n");
 }
 
-// The same by a link, with the full depth.
+// The same by a link, with the full depth and with literals as they stand.
 fn show_entered(text: &[u8], words: &[u32], k: usize) {
     let s = span_at(words, k);
     let link = Subexpression {

@@ -1,6 +1,6 @@
--- How long the forms of an expression are: at most 100,000 bytes for each span that a reader takes. A reader fits if the bytes of what it
--- reads are at most 100,000 for each span that it was given and does not leave; put together from others it fits if they do; then by
--- induction on the bound on the steps. Assumes nothing.
+-- How long the forms of an expression that is read again are: at most 100,000 bytes for each span that a reader takes. A reader fits if the
+-- bytes of what it reads are at most 100,000 for each span that it was given and does not leave; put together from others it fits if they
+-- do; then by induction on the bound on the steps. Assumes nothing.
 use Prim.Native.Nat.{ℕ, zero, suc, _+_, _-_, _*_, _≤_}
 use native.Mathlib.Omega.{arith}
 use mathlib.Core.Path.{_≡_, refl, ap}
@@ -12,10 +12,9 @@ use lib.ListN.{length, length-append}
 use Rattle.support.specs.Bytes.{Bytes, ascii, if, sameBytes, precedes}
 use Rattle.json_path.specs.Span.{Span, own, skipTo, spanCount, spansFrom}
 use Rattle.json_path.specs.Path.{Segment, named, root, here, up, relative, local, segmentOf, prepend, segmentsTo, upsAndName, localName, pathOf}
-use Rattle.literal.specs.Literal.{Verdict, valid, invalid, over, verdict}
 use Rattle.literal.specs.Requote.{requoted}
 use Rattle.expression.specs.Expression.{Param, name, path, literal, subexpression, Call, call, Params, noParams, param, Keys, noKeys, key, BlockParam, noBlockParam, single, pair, Expression, Part, parameter, hash, block, rightTilde, skipped, insertKey, paramsOf, keysOf, lastBlock, expressionOf}
-use Rattle.expression.specs.Read.{Fault, invalidLiteral, overLimit, notAllowed, exhausted, Read, done, failed, Reader, andThen, _>>=_, pure, fail, next, peek, nextBelow, skipping, isTag}
+use Rattle.expression.specs.Read.{Fault, overLimit, notAllowed, exhausted, Read, done, failed, Reader, andThen, _>>=_, pure, fail, next, peek, nextBelow, skipping, isTag}
 use Rattle.expression.specs.Readers.{isName, readTilde, literalText, readOwnSpan, readPath, readLiteral, readSecond, readBlockParam, valueWith, partWith, readNameBy, readSubexpressionBy, readParamBy, readExpressionBy, readPartsBy, enough, readExpression}
 use Rattle.expression.specs.Answers.{callOr}
 use Rattle.expression.specs.declared.parameter.Subexpression.{Subexpression}
@@ -314,18 +313,13 @@ module _ (text : Bytes) (short : length text ≤ 16384) where
   unfolding readPath
   fits-path s g = record { within = λ r h. omega (arith, path-short (own text s) (segmentsTo text (s .end) r), own-short s, segments-short (s .end) r) }
 
-  fits-text : {j k : ℕ} (t : Bytes) → length (quoted t) + 7 + j ≤ k → Fits paramBytes j k (literalText t)
-  fits-text {j} {k} t g = go (verdict t)
-    where
-      go : (v : Verdict) → Fits {A = Param} paramBytes j k (elim v [ valid ↦ pure (literal t) | invalid ↦ fail invalidLiteral | over ↦ fail overLimit ])
-      go valid = fits-pure (omega (arith, literal-is t))
-      go invalid = fits-fail
-      go over = fits-fail
+  fits-text : {j k : ℕ} (t : Bytes) → length (quoted t) + 7 + j ≤ k → Fits paramBytes j k (literalText false t)
+  fits-text t g = fits-pure (omega (arith, literal-is t))
 
   requoted-own-short : (s : Span) → length (quoted (requoted (own text s))) ≤ 66000
   requoted-own-short s = omega (arith, quoted-short (requoted (own text s)), requoted-short (own text s), part-short text (s .start) (s .end))
 
-  fits-literal : {j k : ℕ} (s : Span) → j + 70000 ≤ k → Fits paramBytes j k (readLiteral text s)
+  fits-literal : {j k : ℕ} (s : Span) → j + 70000 ≤ k → Fits paramBytes j k (readLiteral false text s)
   unfolding readLiteral
   fits-literal {j} s g =
       fits-then fits-next (λ i h.
@@ -354,7 +348,7 @@ module _ (text : Bytes) (short : length text ≤ 16384) where
 
   -- ---- the readers of parameters and expressions
 
-  fits-value : {j k : ℕ} (sub : ℕ → Reader Param) (s : Span) → j + 70000 ≤ k → Fits paramBytes j k (sub (s .end)) → Fits paramBytes j k (valueWith text sub s)
+  fits-value : {j k : ℕ} (sub : ℕ → Reader Param) (s : Span) → j + 70000 ≤ k → Fits paramBytes j k (sub (s .end)) → Fits paramBytes j k (valueWith false text sub s)
   fits-value sub s g x =
       fits-if (isTag 26 s) (fits-path s (omega arith))
       (fits-if (isTag 27 s) x
@@ -388,7 +382,7 @@ module _ (text : Bytes) (short : length text ≤ 16384) where
   mutual
     unfolding readNameBy partsBytes
 
-    fits-name : (i d j : ℕ) → Fits paramBytes j j (readNameBy text i d)
+    fits-name : (i d j : ℕ) → Fits paramBytes j j (readNameBy false text i d)
     fits-name zero d j = fits-fail {e = exhausted}
     fits-name (suc i) d j =
         fits-then fits-next (λ s h.
@@ -397,20 +391,20 @@ module _ (text : Bytes) (short : length text ≤ 16384) where
         (fits-if (isTag 27 s) (fits-more (omega arith) (fits-subexpression i d (s .end) (j - 100000)))
         (fits-fail {e = notAllowed}))))
 
-    fits-subexpression : (i d l j : ℕ) → Fits paramBytes j (j + 7) (readSubexpressionBy text i d l)
+    fits-subexpression : (i d l j : ℕ) → Fits paramBytes j (j + 7) (readSubexpressionBy false text i d l)
     fits-subexpression zero d l j = fits-fail {e = exhausted}
     fits-subexpression (suc i) zero l j = fits-fail {e = overLimit}
     fits-subexpression (suc i) (suc d) l j = fits-then (fits-expression i d l j) (λ x h. fits-pure {a = subexpression (x .callOf)} (omega (arith, sub-is (x .callOf))))
 
-    fits-param : (i d j : ℕ) → Fits paramBytes j j (readParamBy text i d)
+    fits-param : (i d j : ℕ) → Fits paramBytes j j (readParamBy false text i d)
     fits-param zero d j = fits-fail {e = exhausted}
     fits-param (suc i) d j =
         fits-then fits-own (λ s h.
         fits-then
-        (fits-value {k = j} (λ l. readSubexpressionBy text i d l) s (omega arith) (fits-more (omega arith) (fits-subexpression i d (s .end) (j - 100000))))
+        (fits-value {k = j} (λ l. readSubexpressionBy false text i d l) s (omega arith) (fits-more (omega arith) (fits-subexpression i d (s .end) (j - 100000))))
         (λ v g. fits-skipping (s .end) v (omega arith)))
 
-    fits-expression : (i d l j : ℕ) → Fits expressionBytes j j (readExpressionBy text i d l)
+    fits-expression : (i d l j : ℕ) → Fits expressionBytes j j (readExpressionBy false text i d l)
     fits-expression zero d l j = fits-fail {e = exhausted}
     fits-expression (suc i) d l j =
         fits-then fits-tilde (λ t h.
@@ -418,16 +412,16 @@ module _ (text : Bytes) (short : length text ≤ 16384) where
         fits-then (fits-parts i d l (j - 0 - paramBytes n)) (λ xs f.
         fits-pure {a = expressionOf t n xs} (omega (arith, expression-is t n xs)))))
 
-    fits-parts : (i d l j : ℕ) → Fits partsBytes j j (readPartsBy text i d l)
+    fits-parts : (i d l j : ℕ) → Fits partsBytes j j (readPartsBy false text i d l)
     fits-parts zero d l j = fits-fail {e = exhausted}
     fits-parts (suc i) d l j =
         fits-step l (fits-pure (omega arith)) (λ s h.
-        fits-then (fits-part (readParamBy text i d) s (λ k. fits-param i d k)) (λ x g.
+        fits-then (fits-part (readParamBy false text i d) s (λ k. fits-param i d k)) (λ x g.
         fits-then (fits-parts i d l (j - 100000 - partBytes x)) (λ xs f. fits-pure {a = x ∷ xs} (omega arith))))
 
-  -- what is read at a link
-  read-short : (d l : ℕ) (s : List Span) → Within expressionBytes (100000 * length s) (readExpression text d l s)
-  read-short d l s = fits-expression (enough text s) d l (100000 * length s) .within s (omega arith)
+  -- what is read again at a link
+  read-short : (d l : ℕ) (s : List Span) → Within expressionBytes (100000 * length s) (readExpression false text d l s)
+  read-short d l s = fits-expression (enough s) d l (100000 * length s) .within s (omega arith)
 
   empty-short : callBytes (call (name []) noParams noKeys) ≡ 10
   unfolding paramForm writeForm writeHead writeFields writeField quoted escaped

@@ -3,7 +3,7 @@ use Prim.Native.Nat.{ℕ, _+_}
 use native.Mathlib.Omega.{arith}
 use mathlib.Core.Path.{_≡_, refl, subst, _∙_}
 use mathlib.Core.List.{List}
-use mathlib.Core.Bool.{Bool, false, _||_}
+use mathlib.Core.Bool.{Bool, true, false, _||_}
 use Rattle.support.specs.Bytes.{Bytes}
 use Rattle.json_path.specs.Span.{Span, spansFrom}
 use Rattle.expression.specs.Expression.{Param, Expression}
@@ -17,6 +17,7 @@ use Rattle.expression.specs.declared.parameter.ExpressionSpec.{ExpressionSpec}
 use Rattle.expression.specs.declared.parameter.ExpressionRead.the-variants as ExpressionRead
 use Rattle.expression.specs.declared.parameter.TildeRead.the-variants as TildeRead
 use Rattle.expression.specs.declared.parameter.ParamRead.the-variants as ParamRead
+use Rattle.expression.proofs.Judged.{expression-again}
 use Rattle.template.specs.Kind.{Tag, blockStart, invertTag, invertChainTag, expression, htmlExpression, decoratorExpression, partialExpression, blockEnd, tagged, kinds, kindOf}
 use Rattle.template.specs.TagExpression.{withOmitPreWs, readOwn, readChain, readTag}
 use Rattle.template.specs.TagRead.{tagReadMeans, OwnReadIs, TagReadIs}
@@ -26,18 +27,20 @@ use Rattle.template.proofs.TagKinds.{chain-tag}
 
 module _ (text : Bytes) (words : List ℕ) (from limit : ℕ) (left : Bool) where
   abbrev read : Read Expression
-  read = readExpression text maxSubexpressions limit (spansFrom words from)
+  read = readExpression true text maxSubexpressions limit (spansFrom words from)
 
   pub own-done : {x : ExpressionSpec} {p : Bool} → ExpressionIs text words read from (ExpressionRead.Done x) → p ≡ (left || x .«omit_pre_ws»)
       → OwnReadIs text words from limit left (R.Done (record { «omit_pre_ws» = p; «omit_pro_ws» = x .«omit_pro_ws»; name = x .name; from = from; next = x .next }))
   unfolding expressionMeans
-  own-done {x} {p} h e = record {
-    means = record {
-      reads = rw (h .reads, e);
-      name = rw (h .reads);
-      onward = h .onward;
-    };
-  }
+  own-done {x} {p} h e =
+      let again = expression-again true text maxSubexpressions limit (spansFrom words from) (h .reads) in
+      record {
+        means = record {
+          reads = rw (h .reads, again, e);
+          name = rw again;
+          onward = h .onward;
+        };
+      }
 
   pub own-failed : {f : Fault} → read ≡ failed (faultMeans f) → OwnReadIs text words from limit left (R.Failed f)
   own-failed e = record { means = rw e }
@@ -62,14 +65,14 @@ module _ (text : Bytes) (words : List ℕ) (s : Span) where
 
   module _ {left : Bool} {at : ℕ} (t : TildeIs words (s .number + 1) (TildeRead.Done left at)) where
     abbrev name : Read Param
-    name = readName text maxSubexpressions (spansFrom words at)
+    name = readName true text maxSubexpressions (spansFrom words at)
 
     pub chain-no-name : {f : Fault} → name ≡ failed (faultMeans f) → s .tag ≡ 10 → TagReadIs text words s (R.Failed f)
     unfolding readChain
     chain-no-name n e = chain-is e (rw (t .reads, n))
 
     module _ {p : Parameter} {next : ℕ} (n : ParamIs text words name (at + 1) (ParamRead.Done p next)) where
-      chain-reads : chain ≡ mapped (withOmitPreWs left) (readExpression text maxSubexpressions (s .end) (spansFrom words next))
+      chain-reads : chain ≡ mapped (withOmitPreWs left) (readExpression true text maxSubexpressions (s .end) (spansFrom words next))
       unfolding readChain
       chain-reads = rw (t .reads, n .reads)
 

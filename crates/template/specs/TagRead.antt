@@ -2,7 +2,7 @@
 use Prim.Native.Nat.{ℕ, _+_, _≤_}
 use mathlib.Core.Path.{_≡_}
 use mathlib.Core.List.{List}
-use mathlib.Core.Bool.{Bool}
+use mathlib.Core.Bool.{Bool, true}
 use Rattle.support.specs.Bytes.{Bytes}
 use Rattle.json_path.specs.Span.{Span, spansFrom}
 use Rattle.expression.specs.Expression.{Expression, asName, nameOf}
@@ -38,7 +38,7 @@ module _ (text : Bytes) (words : List ℕ) where
 
   -- r is the expression from number `from` on up to the limit, a left tilde before it or none
   pub record OwnReadIs (from limit : ℕ) (left : Bool) (r : TagRead) : Type 0 where
-    pub means : tagReadMeans (mapped (withOmitPreWs left) (readExpression text maxSubexpressions limit (spansFrom words from))) limit from r
+    pub means : tagReadMeans (mapped (withOmitPreWs left) (readExpression true text maxSubexpressions limit (spansFrom words from))) limit from r
 
   -- r is what the tag s reads, whatever tag it is
   pub record TagReadIs (s : Span) (r : TagRead) : Type 0 where

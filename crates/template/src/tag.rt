@@ -1,4 +1,4 @@
-// The expression of a tag, read from the spans after it.
+// The expression of a tag, read from the spans after it, with its literals judged.
 use expression::parameter::ExpressionRead;
 use expression::parameter::Fault;
 use expression::parameter::ParamRead;
@@ -32,7 +32,7 @@ pub enum TagRead {
 fn read_own(text: &[u8], words: &[u32], from: usize, limit: usize, left: bool) -> TagRead
     ensures { λ r. ⌜ OwnReadIs (now (text .entry)) (now (words .entry)) from limit left r ⌝ }
 {
-    let r = parse_expression(text, words, from, limit, Subexpression::LIMIT);
+    let r = parse_expression(text, words, from, limit, Subexpression::LIMIT, true);
     match r {
         ExpressionRead::Done(x) => {
             let name = x.name;
@@ -58,7 +58,7 @@ fn read_chain(text: &[u8], words: &[u32], s: Span) -> TagRead
     let TildeRead::Done(left, at) = t else {
         return TagRead::Failed(Fault::Ended);
     };
-    let p = parse_name(text, words, at, Subexpression::LIMIT);
+    let p = parse_name(text, words, at, Subexpression::LIMIT, true);
     match p {
         ParamRead::Done(_, next) => read_own(text, words, next, s.end, left),
         ParamRead::Failed(f) => TagRead::Failed(f),
