@@ -2,7 +2,7 @@
 -- Each takes the first walked span as the code has it, and unfolds the definition. Assumes nothing.
 use Prim.Native.Nat.{ℕ, _+_, _≤_, _<_}
 use native.Mathlib.Omega.{arith}
-use mathlib.Core.Path.{_≡_, refl, sym, ap, subst, _∙_}
+use mathlib.Core.Path.{_≡_, sym, ap, subst, _∙_}
 use mathlib.Core.List.{List, []}
 use mathlib.Core.Bool.{Bool, true, false}
 use borrow.Author.Tests.{ne-eqb, le-leb, lt-leb}

@@ -1,5 +1,5 @@
--- Reading again: an expression's parameters in order, its keys in byte order, and into a subexpression, from their links. Literals were judged
--- when they were first read, and are kept as they stand.
+-- Reading again: an expression's parameters in order, its keys in byte order, and into a subexpression, from their links. Literals were
+-- judged when they were first read, and are kept as they stand.
 use Prim.Native.Nat.{ℕ, _<_}
 use mathlib.Core.Path.{_≡_}
 use mathlib.Core.List.{List}

@@ -276,7 +276,11 @@ fn show_at(text: &[u8], words: &[u32], k: usize, depth: usize) {
         parse_subexpression(text, words, at, s.end, depth, true),
     );
     show(b" | expression");
-    show_expression_read(text, words, parse_expression(text, words, at, s.end, depth, true));
+    show_expression_read(
+        text,
+        words,
+        parse_expression(text, words, at, s.end, depth, true),
+    );
     show(b"\n");
 }
 
