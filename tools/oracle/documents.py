@@ -18,7 +18,7 @@ from compare import run
 
 DOCS = os.path.join(os.path.dirname(os.path.abspath(__file__)), "..", "..", "docs")
 CARD = re.compile(
-    r"card: options (\d+); (?:spans `([^`]*)`|no spans); text `(.*?)`; answer `([^`]*)`(?:; crate: (.*?))?(?= - | \*\*| #| \||$)"
+    r"card: options (\d+); (?:spans `([^`]*)`|no spans); text `(.*?)`; answer `([^`]*)`(?:; crate: ((?:`[^`]*`|[^`])*?))?(?= - | \*\*| #| \||$)"
 )
 
 
