@@ -1,5 +1,5 @@
 -- Writing one after the other: the bytes of two writers in turn are the bytes of both joined. Assumes nothing.
-use Prim.Native.Nat.{ℕ, zero, suc, _+_, _/_, _%_, _≤_, _<_}
+use Prim.Native.Nat.{ℕ, zero, suc, _+_, _-_, _/_, _%_, _≤_, _<_}
 use native.Mathlib.Omega.{arith}
 use native.Mathlib.Nat.{add-zero, add-suc, suc-add}
 use native.Mathlib.Numerals.{add-one}
@@ -7,8 +7,8 @@ use mathlib.Core.Path.{_≡_, refl, sym, ap, _∙_}
 use mathlib.Core.List.{[], _∷_, _++_, append-nil, append-assoc}
 use mathlib.Core.Bool.{Bool, true, false}
 use lib.Dec.{leb, ltb}
-use lib.ListN.{length, getD, take, set, length-append}
-use lib.Seq.{sets, set-out, length-sets, take-suc, take-all}
+use lib.ListN.{length, getD, take, drop, set, length-append, length-drop, take-append-drop}
+use lib.Seq.{sets, set-out, length-sets, take-suc, take-all, take-add}
 use borrow.Author.Tests.{leb-true, leb-false, ltb-false, lt-ltb, le-ltb, ne-eqb}
 use Rattle.support.specs.Bytes.{Bytes, ascii}
 use Rattle.listing.specs.Quoted.{escape, escaped, quoted, digits, decimal}
@@ -26,6 +26,10 @@ sets-out l i (b ∷ x) h = ap (λ k. sets k (suc i) x) (set-out l i b h) ∙ set
 
 onward-onward : (at m n : ℕ) → onward (onward at m) n ≡ onward at (m + n)
 onward-onward at m n = omega arith
+
+-- there a writer only answers the position behind its bytes
+pub written-out : (w l : Bytes) (at r : ℕ) → length l ≤ at → r ≡ onward at (length w) → Written w l at l r
+written-out w l at r h e = record { stored = sym (sets-out l at w h); next = e }
 
 pub written-none : (l : Bytes) (at : ℕ) → at ≤ largest → Written [] l at l at
 written-none l at h = record { stored = refl; next = omega arith }
@@ -71,6 +75,30 @@ escaped-more s i h k a b =
 
 pub escaped-all : {l m : Bytes} {at p : ℕ} (s : Bytes) (i : ℕ) → length s ≤ i → Written (escaped (take i s)) l at m p → Written (escaped s) l at m p
 escaped-all s i h a = rw (take-all i s h) at a
+
+-- n bytes of the text have an escape
+abbrev pub Escapes : Bytes → ℕ → Type 0
+Escapes s n = (n ≤ length s) × (length (escaped s) ≡ length s + n)
+
+pub escapes-join : {m n : ℕ} (x y : Bytes) → Escapes x m → Escapes y n → Escapes (x ++ y) (m + n)
+escapes-join x y a b = rw escaped-append (omega (arith, length-append x y, length-append (escaped x) (escaped y)))
+
+pub escapes-byte : {n k : ℕ} (s : Bytes) (i : ℕ) → i < length s → Escapes (take i s) n → (k ≤ 1) × (length (escape (getD s i 0)) ≡ 1 + k)
+    → Escapes (take (i + 1) s) (n + k)
+unfolding escaped
+escapes-byte {k = k} s i h a b =
+    let b′ = getD s i 0 in
+    let e : Escapes (b′ ∷ []) k = (b .0, ap length (append-nil (escape b′)) ∙ b .1) in
+    rw (add-one i, take-suc s i 0 h) (escapes-join (take i s) (b′ ∷ []) a e)
+
+pub escapes-block : {n k : ℕ} (s : Bytes) (i m : ℕ) → Escapes (take i s) n → Escapes (take (i + m - i) (drop i s)) k → Escapes (take (i + m) s) (n + k)
+escapes-block s i m a b =
+    let q : i + m - i ≡ m = omega arith in
+    rw (take-add i m s) (escapes-join (take i s) (take m (drop i s)) a (rw q at b))
+
+pub escapes-rest : {n k : ℕ} (s : Bytes) (i : ℕ) → Escapes (take i s) n → Escapes (take (length s - i) (drop i s)) k → Escapes s (n + k)
+escapes-rest s i a b =
+    rw (take-append-drop i s) at (escapes-join (take i s) (drop i s) a (rw (take-all (length s - i) (drop i s) (omega (arith, length-drop i s))) at b))
 
 pub quoted-done : {l₀ l m n : Bytes} {at p q r : ℕ} (s : Bytes) → length l₀ ≤ largest
     → Written (34 ∷ []) l₀ at l p → Written (escaped s) l p m q → Written (34 ∷ []) m q n r → Written (quoted s) l₀ at n r

@@ -1,63 +1,34 @@
--- `listing::write::write_escaped` meets its contract: the invariant says that the first `i` bytes are written as quoted text has them. Assumes nothing.
-use Prim.Native.Nat.{_≤_, _-_}
-use native.Mathlib.Omega.{arith}
-use lib.ListN.{length, take}
+-- `listing::write::write_escaped` meets its contract: both ways out write the text. Assumes nothing.
 use borrow.Author.Needs.{needs}
-use Rattle.listing.specs.Quoted.{escaped}
-use Rattle.listing.specs.Written.{Written}
 use Rattle.listing.proofs.Writes as writes
 use Rattle.listing.proofs.write.write_escaped.Statement.{statement}
 use Rattle.listing.proofs.write.write_escaped.Tie as tie
 
-abbrev Inv-loop : tie.InvT-loop
-Inv-loop out₀ at text p₀ i₀ out p i = (i ≤ length text) × Written (escaped (take i text)) out₀ at out p
+write-long-requires : tie.Need-write-long-requires
+write-long-requires c κs = search needs
 
-abbrev μ-loop : tie.MeasureT-loop
-μ-loop out₀ at text p₀ i₀ out p i = length text - i
+same-length : tie.Need-same-length
+same-length c = writes.written-length (c .before .before .write-long .ensures)
 
-loop-holds : tie.Need-loop-holds Inv-loop μ-loop
-unfolding escaped
-loop-holds c = (omega arith, writes.written-none _ _ (omega arith))
+returns : tie.Need-returns
+returns c = c .before .before .write-long .ensures
 
-shared-slice-read-put-escaped : tie.Need-shared-slice-read-put-escaped Inv-loop μ-loop
-shared-slice-read-put-escaped c = search needs
+write-each-requires : tie.Need-write-each-requires
+write-each-requires c κs = search needs
 
-put-escaped-requires : tie.Need-put-escaped-requires Inv-loop μ-loop
-put-escaped-requires c κs = search needs
+same-length-2 : tie.Need-same-length-2
+same-length-2 c = writes.written-length (c .before .before .write-each .ensures)
 
-add-i : tie.Need-add-i Inv-loop μ-loop
-add-i c = search needs
-
-loop-less : tie.Need-loop-less Inv-loop μ-loop
-loop-less c = search needs
-
-loop-again : tie.Need-loop-again Inv-loop μ-loop
-loop-again c =
-    let a = c .before .before .before .before .before .before .before .before .before .args in
-    let l = c .before .before .before .before .before .before .loop in (
-      omega arith,
-      writes.escaped-more (a .text .now) (l .i) (omega arith) (omega arith) (l .inv .1) (c .before .before .put-escaped .ensures),
-    )
-
-same-length : tie.Need-same-length Inv-loop μ-loop
-same-length c = writes.written-length (c .before .loop .inv .1)
-
-returns : tie.Need-returns Inv-loop μ-loop
-returns c =
-    let a = c .before .before .before .before .args in
-    writes.escaped-all (a .text .now) (c .before .loop .i) (omega arith) (c .before .loop .inv .1)
+returns-2 : tie.Need-returns-2
+returns-2 c = c .before .before .write-each .ensures
 
 pub write-escaped-spec : {M : Type 1} → statement M
 write-escaped-spec =
     tie.close
     (tie.spec
-    Inv-loop
-    μ-loop
-    loop-holds
-    shared-slice-read-put-escaped
-    put-escaped-requires
-    add-i
-    loop-less
-    loop-again
+    write-long-requires
     same-length
-    returns)
+    returns
+    write-each-requires
+    same-length-2
+    returns-2)
