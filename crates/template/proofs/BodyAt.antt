@@ -7,6 +7,7 @@ use mathlib.Core.List.{List, []}
 use mathlib.Core.Bool.{Bool, true, false}
 use mathlib.Core.Option.{none}
 use lib.Dec.{eqb}
+use lib.ListN.{length}
 use borrow.Author.Tests.{ne-eqb}
 use Rattle.support.specs.Bytes.{Bytes}
 use Rattle.listing.specs.Tree.{text, Elem, item, block, wrap, Body, end, then, Else, noElse, else}
@@ -73,8 +74,8 @@ module _ (input : Bytes) (words : List ℕ) where
     else-read noElse f st h l lo hi a g c = rw c refl
     else-read (else b) f st h l lo hi a g c = rw (c .1) (ap else (chain-read b f st 0 l (c .0) lo hi a g (c .2)))
 
-  pub holds-read : {st : List Element} {first : ℕ} {b : Body} → Holds input words st first b → bodyAt 8193 st first ≡ b
-  holds-read {st} {first} {b} h = chain-read b 8193 st 0 first (h .last) 1 (h .len) (omega arith) (omega (arith, h .few)) (h .chain)
+  pub holds-read : {st : List Element} {first : ℕ} {b : Body} → Holds input words st first b → bodyAt (length st) st first ≡ b
+  holds-read {st} {first} {b} h = chain-read b (length st) st 0 first (h .last) 1 (h .len) (omega arith) (omega (arith, h .few)) (h .chain)
 
   -- one body
   pub holds-one : {st : List Element} {first : ℕ} {b c : Body} → Holds input words st first b → Holds input words st first c → b ≡ c

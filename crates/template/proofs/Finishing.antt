@@ -113,9 +113,8 @@ rest-is text words m h r p k b a e f g =
 module _ (text : Bytes) (words : List ℕ) where
   -- the root's elements, with the last first, lie in the store before `len`
   pub record RootIs (st : List Element) (x : Frame) (len : ℕ) (es : List Elem) : Type 0 where
-    pub long : length st ≡ 8193
     pub pos : 1 ≤ len
-    pub few : len ≤ 8192
+    pub few : len < length st
     pub chain : Chain text words st 0 (x .first) (x .last) 1 len (nestBody (bodyOf es))
 
   -- the root's elements with the text that is left
@@ -142,8 +141,8 @@ module _ (text : Bytes) (words : List ℕ) (st : List Element) (x : Frame) (len 
         Y : Bool → Joined
         Y k = joinedOf x (elementAt (set st len (G k .made)) (x .last)) (G k .join)
 
-        long : (v w : Element) → length (set (set st len v) (x .last) w) ≡ 8193
-        long v w = length-set (set st len v) (x .last) w ∙ length-set st len v ∙ is .long
+        long : (v w : Element) → length (set (set st len v) (x .last) w) ≡ length st
+        long v w = length-set (set st len v) (x .last) w ∙ length-set st len v
 
         low : x .last < len
         low = ends-below text words st (treeOf es) (x .first) (x .last) 1 len (is .pos) (is .chain)
@@ -157,14 +156,13 @@ module _ (text : Bytes) (words : List ℕ) (st : List Element) (x : Frame) (len 
         held : (w : Element) (first′ : ℕ) → Made text words role.leaf e → Linked text words (set st len e) (set (set st len e) (x .last) w) (x .first) first′ (x .last) len
             → Holds text words (set (set st len e) (x .last) w) first′ (treeOf (leafMeans text words e ∷ es))
         held w first′ m j =
-            let solo = made-leaf text words (set st len e) len e (at-same st len e (omega (arith, is .few, is .long))) m in
-            let c = join-open text words (set st len e) (nestElem (leafMeans text words e)) (x .first) (x .last) 1 len (len + 1) (omega (arith, length-set st len e, is .few, is .long)) (omega arith) (is .pos) solo (treeOf es)
+            let solo = made-leaf text words (set st len e) len e (at-same st len e (is .few)) m in
+            let c = join-open text words (set st len e) (nestElem (leafMeans text words e)) (x .first) (x .last) 1 len (len + 1) (omega (arith, length-set st len e, is .few)) (omega arith) (is .pos) solo (treeOf es)
             (set (set st len e) (x .last) w) first′ (near e) j in
             record {
               last = len;
               len = len + 1;
-              long = long e w;
-              few = omega (arith, is .few);
+              few = omega (arith, is .few, long e w);
               chain = subst (λ (b : T.Body). Chain text words (set (set st len e) (x .last) w) 0 first′ len 1 (len + 1) b) (sym (tree-add (leafMeans text words e) es)) (c .0);
             }
 
@@ -187,23 +185,32 @@ module _ (text : Bytes) (words : List ℕ) (st : List Element) (x : Frame) (len 
         by-kept true m = by-last (eqb (x .last) 0) refl (m refl)
         by-kept false m =
             let s : set (set st len emptyElement) (x .last) (elementAt (set st len emptyElement) (x .last)) ≡ set st len emptyElement = set-getD (set st len emptyElement) (x .last) emptyElement in
-            rw s (record { last = x .last; len = len; long = length-set st len emptyElement ∙ is .long; few = omega (arith, is .few); chain = near emptyElement })
+            rw s (record { last = x .last; len = len; few = omega (arith, is .few, length-set st len emptyElement); chain = near emptyElement })
 
 -- ---- the listing of the whole
 
-module _ (text : Bytes) (words : List ℕ) (o : Options) (st : List Element) (x : Frame) (len : ℕ) (m : Marks) (h : Here) (good : Good text words) (end : Ended text words o st x len m h)
-    (r : Element) (is : RestIs text words m h r) (g : Gapped) (eg : g ≡ gappedOf (ltb (m .«end_pos») (length text)) r len) (z : ℕ) (ez : z ≡ x .last)
-    (y : Joined) (ey : y ≡ joinedOf x (elementAt (set st len (g .made)) z) (g .join)) where
+-- at the end of the list the element of the text that is left was made, and joined the root's body
+pub record Rested (text : Bytes) (words : List ℕ) (o : Options) (st : List Element) (x : Frame) (len : ℕ) (m : Marks) (h : Here) (r : Element) (g : Gapped) (y : Joined) : Type 0 where
+  pub good : Good text words
+  pub end : Ended text words o st x len m h
+  pub is : RestIs text words m h r
+  pub gap : g ≡ gappedOf (ltb (m .«end_pos») (length text)) r len
+  pub joined : y ≡ joinedOf x (elementAt (set st len (g .made)) (x .last)) (g .join)
+
+module _ {text : Bytes} {words : List ℕ} {o : Options} {st : List Element} {x : Frame} {len : ℕ} {m : Marks} {h : Here} {r : Element} {g : Gapped} {y : Joined} (e : Rested text words o st x len m h r g y) where
   -- with this element behind the others, if text is left
   abbrev wholeWith : Elem → T.Body
-  wholeWith e = treeOf (if (ltb (m .«end_pos») (length text)) (e ∷ end .elems) (end .elems))
+  wholeWith i = treeOf (if (ltb (m .«end_pos») (length text)) (i ∷ e .end .elems) (e .end .elems))
 
-  pub ended-holds : Holds text words (set (set st len (g .made)) z (y .last)) (y .top .first) (wholeWith (leafMeans text words r))
-  ended-holds = root-joined text words st x len (end .elems) (end .root) (ltb (m .«end_pos») (length text)) r (λ q. rest-made text words m h r good is (end .here)) g eg z ez y ey
+  pub ended-holds : Holds text words (set (set st len (g .made)) (x .last) (y .last)) (y .top .first) (wholeWith (leafMeans text words r))
+  ended-holds =
+      root-joined text words st x len (e .end .elems) (e .end .root) (ltb (m .«end_pos») (length text)) r (λ q. rest-made text words m h r (e .good) (e .is) (e .end .here)) g (e .gap) (x .last) refl y (e .joined)
 
   -- where the output was left as it was before it was written
-  pub ended-answer : (l₀ l k : Bytes) (a : Answer) → l ≡ l₀ → AnswerIs (fit (length l) (write (wholeWith (leafMeans text words r)))) l k a → AnswerIs (walkAnswer text words o (length l₀)) l₀ k a
+  pub ended-answer : {l₀ l k : Bytes} {a : Answer} → l ≡ l₀
+      → ((b : T.Body) → Holds text words (set (set st len (g .made)) (x .last) (y .last)) (y .top .first) b → AnswerIs (fit (length l) (write b)) l k a)
+      → AnswerIs (walkAnswer text words o (length l₀)) l₀ k a
   unfolding listing
-  ended-answer l₀ l k a q w =
-      rw (end .answer (length l₀)) (subst (λ (i : Bytes). AnswerIs (fit (length i) (listing (bodyOf (restOf text words m (end .elems))))) i k a) q
-      (subst (λ (e : Elem). AnswerIs (fit (length l) (write (wholeWith e))) l k a) (rest-means text words m h r good is (end .here)) w))
+  ended-answer {l₀} {l} {k} {a} q w =
+      rw (e .end .answer (length l₀)) (subst (λ (i : Bytes). AnswerIs (fit (length i) (listing (bodyOf (restOf text words m (e .end .elems))))) i k a) q
+      (subst (λ (i : Elem). AnswerIs (fit (length l) (write (wholeWith i))) l k a) (rest-means text words m h r (e .good) (e .is) (e .end .here)) (w _ ended-holds)))

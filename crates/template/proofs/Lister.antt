@@ -126,11 +126,11 @@ module _ (text : Bytes) (words : List ℕ) (st : List Element) where
 
   -- the entry w at depth d is a block with this else, from the number k on, and these elements behind it
   record Waits (w : code.Waiting) (d k m hi : ℕ) (e : Else) (r : Body) : Type 0 where
-    inside : w .block < 8193
+    inside : w .block < length st
     deep : d + 1 < k
     order : k ≤ m
-    below : m ≤ 8193
-    near : hi ≤ 8193
+    below : m ≤ length st
+    near : hi ≤ length st
     elses : ElseLeft (w .inverse) (elementAt st (w .block)) k m e
     last : ℕ
     rest : Chain text words st (w .block) (elementAt st (w .block) .next) last m hi r
@@ -153,7 +153,7 @@ module _ (text : Bytes) (words : List ℕ) (st : List Element) where
   entrySize : code.Waiting → ℕ
   entrySize w =
       let x = elementAt st (w .block) in
-      1 + elseSize (if (w .inverse) noElse (elseOf (x .inverted) (bodyAt text words 8193 st (x .inverse)))) + bodySize (bodyAt text words 8193 st (x .next))
+      1 + elseSize (if (w .inverse) noElse (elseOf (x .inverted) (bodyAt text words (length st) st (x .inverse)))) + bodySize (bodyAt text words (length st) st (x .next))
 
   waitingSize : List code.Waiting → ℕ → ℕ
   waitingSize ws zero = 0
@@ -161,11 +161,11 @@ module _ (text : Bytes) (words : List ℕ) (st : List Element) where
 
   -- what is left
   pub leftSize : List code.Waiting → ℕ → ℕ → ℕ
-  leftSize ws at depth = bodySize (bodyAt text words 8193 st at) + waitingSize ws depth
+  leftSize ws at depth = bodySize (bodyAt text words (length st) st at) + waitingSize ws depth
 
   -- the pass that is still to come, while the first one measures
   pub again : Bool → ℕ → ℕ
-  again false first = 1 + bodySize (bodyAt text words 8193 st first)
+  again false first = 1 + bodySize (bodyAt text words (length st) st first)
   again true first = 0
 
   pub again-less : {measured : Bool} {depth : ℕ} (ws : List code.Waiting) (first at : ℕ) → measured ≡ false → depth ≡ 0
@@ -173,17 +173,17 @@ module _ (text : Bytes) (words : List ℕ) (st : List Element) where
   unfolding again leftSize waitingSize
   again-less ws first at e d = rw (e, d) (omega arith)
 
-  else-left : (i : Bool) (x : Element) (k m : ℕ) (e : Else) → 1 ≤ k → m ≤ 8193 → ElseLeft i x k m e
-      → if i noElse (elseOf (x .inverted) (bodyAt text words 8193 st (x .inverse))) ≡ e
+  else-left : (i : Bool) (x : Element) (k m : ℕ) (e : Else) → 1 ≤ k → m ≤ length st → ElseLeft i x k m e
+      → if i noElse (elseOf (x .inverted) (bodyAt text words (length st) st (x .inverse))) ≡ e
   else-left true x k m e h g s = sym s
-  else-left false x k m e h g s = else-read text words e 8193 st (x .inverted) (x .inverse) k m h (omega arith) s
+  else-left false x k m e h g s = else-read text words e (length st) st (x .inverted) (x .inverse) k m h (omega arith) s
 
   entry-size : (w : code.Waiting) (d k m hi : ℕ) (e : Else) (r : Body) → Waits w d k m hi e r → entrySize w ≡ 1 + elseSize e + bodySize r
   unfolding entrySize
   entry-size w d k m hi e r s =
       let x = elementAt st (w .block) in
       let a = ap elseSize (else-left (w .inverse) x k m e (omega (arith, s .deep)) (s .below) (s .elses)) in
-      let b = ap bodySize (chain-read text words r 8193 st (w .block) (x .next) (s .last) m hi (omega (arith, s .deep, s .order)) (omega (arith, s .near)) (s .rest)) in
+      let b = ap bodySize (chain-read text words r (length st) st (w .block) (x .next) (s .last) m hi (omega (arith, s .deep, s .order)) (omega (arith, s .near)) (s .rest)) in
       omega arith
 
   stack-size : (ws : List code.Waiting) (k : ℕ) (cs : List Context) → Stack ws k cs → waitingSize ws (length cs) ≡ stackSize cs
@@ -207,11 +207,11 @@ module _ (text : Bytes) (words : List ℕ) (st : List Element) where
     hi : ℕ
     chain : Chain text words st before at last lo hi here
     low : depth < lo
-    near : hi ≤ 8193
+    near : hi ≤ length st
     contexts : List Context
     stack : Stack ws hi contexts
     deep : length contexts ≡ depth
-    pub long : length ws ≡ 8193
+    pub long : length ws ≡ length st
     whole : (k : Bytes) (r : ℕ) → Written (bodyBytes here ++ tail contexts) m p k r → Written (write body) l start k r
     pub same : length m ≡ length l
     position : p ≤ largest
@@ -220,12 +220,12 @@ module _ (text : Bytes) (words : List ℕ) (st : List Element) where
       → leftSize ws at depth ≡ bodySize (s .here) + stackSize (s .contexts)
   unfolding leftSize
   left-size {ws = ws} {at = at} {depth = depth} s =
-      let a = ap bodySize (chain-read text words (s .here) 8193 st (s .before) at (s .last) (s .lo) (s .hi) (omega (arith, s .low)) (omega (arith, s .near)) (s .chain)) in
+      let a = ap bodySize (chain-read text words (s .here) (length st) st (s .before) at (s .last) (s .lo) (s .hi) (omega (arith, s .low)) (omega (arith, s .near)) (s .chain)) in
       let b = ap (waitingSize ws) (sym (s .deep)) ∙ stack-size ws (s .hi) (s .contexts) (s .stack) in
       omega (arith, a, b)
 
   -- before the first turn, behind the first line
-  pub begins : {first : ℕ} {l m : Bytes} {start p : ℕ} (ws : List code.Waiting) → length ws ≡ 8193 → length l ≤ largest → Stored text words st first
+  pub begins : {first : ℕ} {l m : Bytes} {start p : ℕ} (ws : List code.Waiting) → length ws ≡ length st → length l ≤ largest → Stored text words st first
       → Written (ascii "[template\n") l start m p
       → Lister first l start m ws p first 0
   unfolding tail
@@ -337,17 +337,17 @@ module _ (text : Bytes) (words : List ℕ) (st : List Element) where
 
     -- the element at a link that is not 0
     module _ (some : at ≡ 0 → ⊥) where
-      pub element-near : at < 8193
+      pub element-near : at < length st
       element-near = go (s .here) (s .chain)
         where
-          go : (b : Body) → Chain text words st (s .before) at (s .last) (s .lo) (s .hi) b → at < 8193
+          go : (b : Body) → Chain text words st (s .before) at (s .last) (s .lo) (s .hi) b → at < length st
           go end c = absurd (some (c .0))
           go (then e r) c = omega (arith, c .2, c .3, s .near)
 
-      pub depth-near : depth < 8193
+      pub depth-near : depth < length st
       depth-near = go (s .here) (s .chain)
         where
-          go : (b : Body) → Chain text words st (s .before) at (s .last) (s .lo) (s .hi) b → depth < 8193
+          go : (b : Body) → Chain text words st (s .before) at (s .last) (s .lo) (s .hi) b → depth < length st
           go end c = absurd (some (c .0))
           go (then e r) c = omega (arith, c .1, c .2, c .3, s .near, s .low)
 
@@ -472,10 +472,10 @@ module _ (text : Bytes) (words : List ℕ) (st : List Element) where
 
     -- the block that waits, where a body ended
     module _ (over : at ≡ 0) (some : depth ≡ 0 → ⊥) where
-      pub entry-near : (depth - 1 < 8193) × (getD ws (depth - 1) noWaiting .block < 8193)
+      pub entry-near : (depth - 1 < length st) × (getD ws (depth - 1) noWaiting .block < length st)
       entry-near = go (s .contexts) (s .deep) (s .stack)
         where
-          go : (cs : List Context) → length cs ≡ depth → Stack ws (s .hi) cs → (depth - 1 < 8193) × (getD ws (depth - 1) noWaiting .block < 8193)
+          go : (cs : List Context) → length cs ≡ depth → Stack ws (s .hi) cs → (depth - 1 < length st) × (getD ws (depth - 1) noWaiting .block < length st)
           go [] e t = absurd (some (sym e))
           go (context z hi x r ∷ cs) e t =
               let i : length cs ≡ depth - 1 = omega arith in

@@ -38,8 +38,9 @@ use Rattle.template.specs.declared.turn.Plan.{Plan}
 use Rattle.template.specs.declared.turn.Joined.{Joined}
 use Rattle.template.specs.declared.turn.Gapped.{Gapped}
 use Rattle.template.proofs.Levels.{frameAt}
-use Rattle.template.proofs.Turns.{openAt, Counted, Kept, Planned, Turned, act-turned, close-turned}
-use Rattle.template.proofs.Ready.{open-same, linked, gapTop, gapped, gap-len, last-kept, trimmed}
+use Rattle.template.proofs.Turns.{openAt, Counted, Kept, Turned, act-turned, close-turned}
+use Rattle.template.proofs.Fits.{fits-low, fits-last, owner-in, deep}
+use Rattle.template.proofs.Ready.{open-same, linked, gapTop, gapped, gap-len, last-kept, trimmed, mid-last}
 
 -- ---- a step's gap and trim leave what is asked of the act
 
@@ -97,6 +98,19 @@ module _ (text : Bytes) (words : List ℕ) where
   allowed A.Else s s′ o c h = ap takesElse o ∙ h
   allowed A.Close s s′ o c h = λ q. h (sym o ∙ q)
 
+  -- a turn's own part
+  own-part : (n : ℕ) (st : List Element) (lv : List Frame) (x : Frame) (depth len count : ℕ) (p : Step) (s : State) → len < n → (c : Bool) → (c ≡ true → p .act ≡ A.Skip)
+      → (c ≡ false → Allowed text words (p .act) s) → Kept text words n st lv x depth len count c (readied p s .top) (readied p s .outer)
+      → Turned text words n st lv (refChainHead (x .block) (x .head)) len count c (planOf (turnOf c (x .head) (p .act)) (openAt st lv x depth len count)) (applied text words p s .top)
+      (applied text words p s .outer)
+  unfolding applied withMarks turnOf
+  own-part n st lv x depth len count p s room true i a k =
+      subst (λ (b : Act). Turned text words n st lv (refChainHead (x .block) (x .head)) len count true (planOf (turnOf true (x .head) (p .act)) (openAt st lv x depth len count))
+      (actEffect text words b (readied p s) .top) (actEffect text words b (readied p s) .outer)) (sym (i refl))
+      (close-turned text words n st lv x depth len count room (p .act) (readied p s .top) (readied p s .outer) k)
+  own-part n st lv x depth len count p s room false i a k =
+      act-turned text words n st lv x depth len count room (p .act) (readied p s) (allowed (p .act) s (readied p s) (ready-owner p s) (ready-count p s) (a refl)) k
+
   -- ---- what the loop keeps
 
   -- where a turn goes on: a closing turn stays
@@ -112,14 +126,16 @@ module _ (text : Bytes) (words : List ℕ) where
     abbrev pub walked : State → ℕ → Result State
     walked s at = walk text words (o .«prevent_indent») (o .«is_partial») s (spansFrom words at)
 
-    pub record Held (st : List Element) (lv : List Frame) (x : Frame) (m : Marks) (h : Here) (depth len count : ℕ) (closing : Bool) (at : ℕ) : Type 0 where
+    -- the store has n places, enough for these spans
+    pub record Held (n : ℕ) (st : List Element) (lv : List Frame) (x : Frame) (m : Marks) (h : Here) (depth len count : ℕ) (closing : Bool) (at : ℕ) : Type 0 where
       pub now : State
-      pub kept : Kept text words 8193 st lv x depth len count closing (now .top) (now .outer)
+      pub kept : Kept text words n st lv x depth len count closing (now .top) (now .outer)
       pub marks : MarksAre m now
       pub here : HereIs text h (prevEnd now)
       pub walks : walked initial 0 ≡ walked now at
       pub few : Few now closing len at
-      pub within : len ≤ 8192
+      pub within : len < n
+      pub enough : 2 * spanCount words < n
 
     -- what is known of a step that a turn makes
     pub record Goes (at : ℕ) (closing : Bool) (p : Step) (s : State) : Type 0 where
@@ -192,98 +208,138 @@ module _ (text : Bytes) (words : List ℕ) where
     goes true v at r p s k e a b t = subst (λ (q : Step). Goes at true q s) (step-of (stillStep v at) p (sym (k .still refl) ∙ e)) (still-goes v at s a b)
     goes false v at r p s k e a b t = step-goes at p s (subst (λ (q : Visit). visitMeans text words o at q s) e (k .visits refl .means s (t refl)))
 
-    -- ---- the stages of a turn
+-- ---- the stages of a turn
 
-    module _ (st : List Element) (lv : List Frame) (x : Frame) (m : Marks) (h : Here) (depth len count : ℕ) (closing : Bool) (at : ℕ) (few : spanCount words ≤ 4096)
-        (held : Held st lv x m h depth len count closing at) (p : Step) (go : Goes at closing p (held .now)) (g : Gapped) (eg : g ≡ gappedOf (p .gapped) (p .gap) len) where
-      -- how many elements there are with the gap
-      gap-is : (len ≤ g .len) × (g .len ≤ len + 1) × (closing ≡ true → g .len ≡ len)
-      gap-is = gap-len text words 8193 st lv x depth len count (held .now .top) (held .now .outer) (omega (arith, held .within)) closing (p .gapped) (p .gap) g (go .gapless) eg
+module _ {text : Bytes} {words : List ℕ} {o : Options} {n : ℕ} {st : List Element} {lv : List Frame} {x : Frame} {m : Marks} {h : Here} {depth len count : ℕ} {closing : Bool} {at : ℕ}
+    (held : Held text words o n st lv x m h depth len count closing at) where
+  pub block-in : x .block < n
+  block-in = omega (arith, fits-low text words st lv x depth len count closing _ _ (held .kept .fits), held .within)
 
-      gap-few : closing ≡ false → g .len ≤ 2 * at + 1
-      gap-few q = by-case (held .few)
-        where
-          by-case : Few (held .now) closing len at → g .len ≤ 2 * at + 1
-          by-case (inl c) = omega (arith, ap (λ (y : Gapped). y .len) eg, gap-none (p .gapped) (p .gap) len (go .first (c .3) (c .4)), c .2)
-          by-case (inr c) = omega (arith, gap-is .1, c)
+  pub last-in : x .last < n
+  last-in = omega (arith, fits-last text words st lv x depth len count closing _ _ (held .kept .pos) (held .kept .fits), held .within)
 
-      -- there is room for the gap and for one element more
-      pub room : (len < 8193) × (g .len < 8193) × (closing ≡ true → g .len ≡ len) × (closing ≡ false → g .len ≤ 2 * at + 1)
-      room = by-mode closing (go .onward) (gap-is .2) gap-few
-        where
-          by-mode : (c : Bool) → Onward c at (p .next) → (c ≡ true → g .len ≡ len) → (c ≡ false → g .len ≤ 2 * at + 1)
-              → (len < 8193) × (g .len < 8193) × (c ≡ true → g .len ≡ len) × (c ≡ false → g .len ≤ 2 * at + 1)
-          by-mode true u k f = (omega (arith, held .within), omega (arith, held .within, k refl), k, f)
-          by-mode false u k f = (omega (arith, held .within), omega (arith, few, u .1, f refl), k, f)
+  -- the step's gap is made
+  pub record Gaps (p : Step) (g : Gapped) : Type 0 where
+    pub goes : Goes text words o at closing p (held .now)
+    pub made : g ≡ gappedOf (p .gapped) (p .gap) len
 
-      pub gap-at : Planned text words 8193 (set st len (g .made)) lv x depth (g .len) count closing (g .join) (gapTop text words (p .gapped) (p .gap) (held .now .top)) (held .now .outer)
-      gap-at = gapped text words 8193 st lv x depth len count (held .now .top) (held .now .outer) (room .0) closing (p .gapped) (p .gap) g (go .gapless) (go .gap) eg (held .kept)
+  -- it joins the body
+  pub record Joins (p : Step) (g : Gapped) (y : Joined) : Type 0 where
+    pub gaps : Gaps p g
+    pub joined : y ≡ joinedOf x (elementAt (set st len (g .made)) (x .last)) (g .join)
 
-      module _ (gl : ℕ) (e₁ : gl ≡ x .last) (y : Joined) (ey : y ≡ joinedOf x (elementAt (set st len (g .made)) gl) (g .join)) where
-        -- the gap is joined
-        pub joined-at : Kept text words 8193 (set (set st len (g .made)) gl (y .last)) lv (y .top) depth (g .len) count closing (gapTop text words (p .gapped) (p .gap) (held .now .top)) (held .now .outer)
-        joined-at = linked text words 8193 (set st len (g .made)) lv x depth (g .len) count closing (g .join) _ _ gap-at (omega (arith, room .1)) gl y e₁ ey
+  -- the last text is trimmed
+  pub record Trims (p : Step) (g : Gapped) (y : Joined) (v : Element) : Type 0 where
+    pub joins : Joins p g y
+    pub trims : v ≡ trimEndOf (elementAt (set (set st len (g .made)) (x .last) (y .last)) (y .top .last)) (p .back)
 
-        module _ (tl : ℕ) (e₂ : tl ≡ y .top .last) (v : Element) (ev : v ≡ trimEndOf (elementAt (set (set st len (g .made)) gl (y .last)) tl) (p .back)) where
-          -- the last text is trimmed
-          pub ready-at : Kept text words 8193 (set (set (set st len (g .made)) gl (y .last)) tl v) lv (y .top) depth (g .len) count closing (readied p (held .now) .top) (readied p (held .now) .outer)
-          ready-at =
-              subst (λ (t : Level). Kept text words 8193 (set (set (set st len (g .made)) gl (y .last)) tl v) lv (y .top) depth (g .len) count closing (trimLast (backTrim (p .back)) t) (readied p (held .now) .outer)) (gap-top (p .gapped) (p .gap) (held .now))
-              (subst (λ (t : List Level). Kept text words 8193 (set (set (set st len (g .made)) gl (y .last)) tl v) lv (y .top) depth (g .len) count closing (trimLast (backTrim (p .back)) (gapTop text words (p .gapped) (p .gap) (held .now .top))) t) (sym (gap-outer (p .gapped) (p .gap) (held .now)))
-              (trimmed text words 8193 (set (set st len (g .made)) gl (y .last)) lv (y .top) depth (g .len) count _ _ (omega (arith, room .1)) closing (p .back) tl v (go .whole) e₂ ev joined-at))
+  -- the store then
+  abbrev readyStore : Gapped → Joined → Element → List Element
+  readyStore g y v = set (set (set st len (g .made)) (x .last) (y .last)) (y .top .last) v
 
-    -- ---- its own part
+  -- the act is planned, with the frame at u below the top
+  pub record Plans (p : Step) (g : Gapped) (y : Joined) (v : Element) (w u : ℕ) (t : Turn) (q : Plan) : Type 0 where
+    pub ready : Trims p g y v
+    pub owner : w ≡ refChainHead (y .top .block) (y .top .head)
+    pub below : u ≡ depth - 1
+    pub turns : t ≡ turnOf closing (y .top .head) (p .act)
+    pub plan : q ≡ planOf t (record { top = y .top; below = frameAt lv u; owner = elementAt (readyStore g y v) w; depth = depth; len = g .len; count = count })
 
-    own-part : (st : List Element) (lv : List Frame) (x : Frame) (depth len count : ℕ) (p : Step) (s : State) → len < 8193 → (c : Bool) → (c ≡ true → p .act ≡ A.Skip)
-        → (c ≡ false → Allowed text words (p .act) s) → Kept text words 8193 st lv x depth len count c (readied p s .top) (readied p s .outer)
-        → Turned text words 8193 st lv (refChainHead (x .block) (x .head)) len count c (planOf (turnOf c (x .head) (p .act)) (openAt st lv x depth len count)) (applied text words p s .top)
-        (applied text words p s .outer)
-    unfolding applied withMarks turnOf
-    own-part st lv x depth len count p s room true i a k =
-        subst (λ (b : Act). Turned text words 8193 st lv (refChainHead (x .block) (x .head)) len count true (planOf (turnOf true (x .head) (p .act)) (openAt st lv x depth len count))
-        (actEffect text words b (readied p s) .top) (actEffect text words b (readied p s) .outer)) (sym (i refl))
-        (close-turned text words 8193 st lv x depth len count room (p .act) (readied p s .top) (readied p s .outer) k)
-    own-part st lv x depth len count p s room false i a k =
-        act-turned text words 8193 st lv x depth len count room (p .act) (readied p s) (allowed (p .act) s (readied p s) (ready-owner p s) (ready-count p s) (a refl)) k
+-- ---- what is known at each stage
 
-    module _ (st : List Element) (lv : List Frame) (x : Frame) (depth len₀ len count : ℕ) (closing : Bool) (at : ℕ) (p : Step) (s : State) (go : Goes at closing p s)
-        (k : Kept text words 8193 st lv x depth len count closing (readied p s .top) (readied p s .outer)) (room : len < 8193) (w : ℕ) (ew : w ≡ refChainHead (x .block) (x .head))
-        (u : ℕ) (eu : u ≡ depth - 1) (t : Turn) (et : t ≡ turnOf closing (x .head) (p .act)) (q : Plan)
-        (eq : q ≡ planOf t (record { top = x; below = frameAt lv u; owner = elementAt st w; depth = depth; len = len; count = count })) where
-      pub turned : Turned text words 8193 st lv w len count closing q (applied text words p s .top) (applied text words p s .outer)
-      turned = rw (eq, et, eu, ew) (own-part st lv x depth len count p s room closing (go .idle) (go .act) k)
+module _ {text : Bytes} {words : List ℕ} {o : Options} {n : ℕ} {st : List Element} {lv : List Frame} {x : Frame} {m : Marks} {h : Here} {depth len count : ℕ} {closing : Bool} {at : ℕ}
+    {held : Held text words o n st lv x m h depth len count closing at} where
+  module _ {p : Step} {g : Gapped} (a : Gaps held p g) where
+    -- how many elements there are with the gap
+    gap-is : (len ≤ g .len) × (g .len ≤ len + 1) × (closing ≡ true → g .len ≡ len)
+    gap-is = gap-len text words n st lv x depth len count (held .now .top) (held .now .outer) (omega (arith, held .within)) closing (p .gapped) (p .gap) g (a .goes .gapless) (a .made)
 
-      -- the loop goes on with fewer spans, or with fewer open blocks
-      pub less : 2 * (spanCount words - p .next) + q .count < 2 * (spanCount words - at) + count
-      less = by-mode closing (go .onward) (turned .counted)
-        where
-          by-mode : (c : Bool) → Onward c at (p .next) → Counted c (q .count) count (q .len) len → 2 * (spanCount words - p .next) + q .count < 2 * (spanCount words - at) + count
-          by-mode true a b = omega (arith, a, b .0)
-          by-mode false a b = omega (arith, a .0, a .1, b .0)
+    gap-few : closing ≡ false → g .len ≤ 2 * at + 1
+    gap-few q = by-case (held .few)
+      where
+        by-case : Few text words (held .now) closing len at → g .len ≤ 2 * at + 1
+        by-case (inl c) = omega (arith, ap (λ (y : Gapped). y .len) (a .made), gap-none (p .gapped) (p .gap) len (a .goes .first (c .3) (c .4)), c .2)
+        by-case (inr c) = omega (arith, gap-is .1, c)
 
-      -- there is room for the elements
-      pub grown : (closing ≡ true → len ≡ len₀) → (closing ≡ false → len ≤ 2 * at + 1) → Few s closing len₀ at → len₀ ≤ 8192 → spanCount words ≤ 4096 → (q .len ≤ 2 * p .next) × (q .len ≤ 8192)
-      grown a b c d cap = by-mode closing a b c (go .onward) (turned .counted)
-        where
-          by-mode : (e : Bool) → (e ≡ true → len ≡ len₀) → (e ≡ false → len ≤ 2 * at + 1) → Few s e len₀ at → Onward e at (p .next) → Counted e (q .count) count (q .len) len
-              → (q .len ≤ 2 * p .next) × (q .len ≤ 8192)
-          by-mode true a b (inl c) f g = apart (sym (c .0))
-          by-mode true a b (inr c) f g = let i = a refl in (omega (arith, i, f, g .1, c), omega (arith, i, g .1, d))
-          by-mode false a b c f g = let i = b refl in (omega (arith, f .0, g .1, i), omega (arith, f .1, g .1, i, cap))
+    -- there is room for one element more
+    pub room : g .len < n
+    room = by-mode closing (a .goes .onward) (gap-is .2) gap-few
+      where
+        by-mode : (c : Bool) → Onward text words c at (p .next) → (c ≡ true → g .len ≡ len) → (c ≡ false → g .len ≤ 2 * at + 1) → g .len < n
+        by-mode true u k f = omega (arith, held .within, k refl)
+        by-mode false u k f = omega (arith, held .enough, u .1, f refl)
 
-      module _ (pl : ℕ) (el : pl ≡ q .top .last) (y : Joined) (ey : y ≡ joinedOf (q .top) (elementAt (set (set st len (q .made)) w (q .owner)) pl) (q .join))
-          (same : closing ≡ true → len ≡ len₀) (near : closing ≡ false → len ≤ 2 * at + 1) (few : Few s closing len₀ at) (within : len₀ ≤ 8192) (cap : spanCount words ≤ 4096) (walks : walked initial 0 ≡ walked s at) where
-        -- what the loop keeps holds again
-        pub next-held : Held (set (set (set st len (q .made)) w (q .owner)) pl (y .last)) (set lv (q .slot) (q .put)) (y .top) (p .marks) (p .here) (q .depth) (q .len) (q .count) (q .closing) (p .next)
-        unfolding applied withMarks
-        next-held =
-            record {
-              now = applied text words p s;
-              kept = linked text words 8193 (set (set st len (q .made)) w (q .owner)) (set lv (q .slot) (q .put)) (q .top) (q .depth) (q .len) (q .count) (q .closing) (q .join) _ _ (turned .turn)
-                  (let g = grown same near few within cap in omega (arith, g .1)) pl y el ey;
-              marks = record { stage = refl; endPos = refl; previous = go .previous; omitProWs = refl; trimLine = refl };
-              here = subst (λ (i : ℕ). HereIs text (p .here) i) (go .previous) (go .here);
-              walks = walks ∙ go .steps;
-              few = inr (grown same near few within cap .0);
-              within = grown same near few within cap .1;
-            }
+  module _ {p : Step} {g : Gapped} {y : Joined} (b : Joins held p g y) where
+    joined-at : Kept text words n (set (set st len (g .made)) (x .last) (y .last)) lv (y .top) depth (g .len) count closing (gapTop text words (p .gapped) (p .gap) (held .now .top)) (held .now .outer)
+    joined-at =
+        let gap = gapped text words n st lv x depth len count (held .now .top) (held .now .outer) (held .within) closing (p .gapped) (p .gap) g (b .gaps .goes .gapless) (b .gaps .goes .gap) (b .gaps .made) (held .kept) in
+        linked text words n (set st len (g .made)) lv x depth (g .len) count closing (g .join) _ _ gap (omega (arith, room (b .gaps))) (x .last) y refl (b .joined)
+
+    pub joined-last : y .top .last < n
+    joined-last = omega (arith, fits-last text words _ lv (y .top) depth (g .len) count closing _ _ (joined-at .pos) (joined-at .fits), room (b .gaps))
+
+  module _ {p : Step} {g : Gapped} {y : Joined} {v : Element} (t : Trims held p g y v) where
+    ready-at : Kept text words n (readyStore held g y v) lv (y .top) depth (g .len) count closing (readied text words p (held .now) .top) (readied text words p (held .now) .outer)
+    ready-at =
+        let go = t .joins .gaps .goes in
+        subst (λ (z : Level). Kept text words n (readyStore held g y v) lv (y .top) depth (g .len) count closing (trimLast (backTrim (p .back)) z) (readied text words p (held .now) .outer)) (gap-top text words (p .gapped) (p .gap) (held .now))
+        (subst (λ (z : List Level). Kept text words n (readyStore held g y v) lv (y .top) depth (g .len) count closing (trimLast (backTrim (p .back)) (gapTop text words (p .gapped) (p .gap) (held .now .top))) z) (sym (gap-outer text words (p .gapped) (p .gap) (held .now)))
+        (trimmed text words n (set (set st len (g .made)) (x .last) (y .last)) lv (y .top) depth (g .len) count _ _ (omega (arith, room (t .joins .gaps))) closing (p .back) (y .top .last) v (go .whole) refl (t .trims) (joined-at (t .joins))))
+
+    -- the owner of the open body is in use
+    pub owner-near : {w : ℕ} → w ≡ refChainHead (y .top .block) (y .top .head) → w < n
+    owner-near e = omega (arith, e, owner-in text words _ lv (y .top) depth (g .len) count closing _ _ (ready-at .pos) (ready-at .fits), room (t .joins .gaps))
+
+    -- how much is open
+    pub caps : (depth ≤ 64) × (count ≤ 64)
+    caps = (omega (arith, deep text words _ lv (y .top) depth (g .len) count closing _ _ (ready-at .fits), ready-at .cap), ready-at .cap)
+
+  module _ {p : Step} {g : Gapped} {y : Joined} {v : Element} {w u : ℕ} {t : Turn} {q : Plan} (k : Plans held p g y v w u t q) where
+    go : Goes text words o at closing p (held .now)
+    go = k .ready .joins .gaps .goes
+
+    turned : Turned text words n (readyStore held g y v) lv w (g .len) count closing q (applied text words p (held .now) .top) (applied text words p (held .now) .outer)
+    turned =
+        rw (k .plan, k .turns, k .below, k .owner)
+        (own-part text words n (readyStore held g y v) lv (y .top) depth (g .len) count p (held .now) (room (k .ready .joins .gaps)) closing (go .idle) (go .act) (ready-at (k .ready)))
+
+    pub slot-near : q .slot < 64
+    slot-near = turned .slot
+
+    -- the loop goes on with fewer spans, or with fewer open blocks
+    pub less : 2 * (spanCount words - p .next) + q .count < 2 * (spanCount words - at) + count
+    less = by-mode closing (go .onward) (turned .counted)
+      where
+        by-mode : (c : Bool) → Onward text words c at (p .next) → Counted c (q .count) count (q .len) (g .len) → 2 * (spanCount words - p .next) + q .count < 2 * (spanCount words - at) + count
+        by-mode true a b = omega (arith, a, b .0)
+        by-mode false a b = omega (arith, a .0, a .1, b .0)
+
+    -- there is room for the elements
+    grown : (q .len ≤ 2 * p .next) × (q .len < n)
+    grown = by-mode closing (gap-is (k .ready .joins .gaps) .2) (gap-few (k .ready .joins .gaps)) (held .few) (go .onward) (turned .counted)
+      where
+        by-mode : (e : Bool) → (e ≡ true → g .len ≡ len) → (e ≡ false → g .len ≤ 2 * at + 1) → Few text words (held .now) e len at → Onward text words e at (p .next) → Counted e (q .count) count (q .len) (g .len)
+            → (q .len ≤ 2 * p .next) × (q .len < n)
+        by-mode true a b (inl c) f z = apart text words o (sym (c .0))
+        by-mode true a b (inr c) f z = let i = a refl in (omega (arith, i, f, z .1, c), omega (arith, i, z .1, held .within))
+        by-mode false a b c f z = let i = b refl in (omega (arith, f .0, z .1, i), omega (arith, f .1, z .1, i, held .enough))
+
+    pub planned-last : q .top .last < n
+    planned-last = omega (arith, mid-last text words n _ _ _ _ _ _ _ _ _ _ (turned .turn) (omega (arith, grown .1)), grown .1)
+
+    -- what the loop keeps holds again
+    pub next-held : {z : Joined} → z ≡ joinedOf (q .top) (elementAt (set (set (readyStore held g y v) (g .len) (q .made)) w (q .owner)) (q .top .last)) (q .join)
+        → Held text words o n (set (set (set (readyStore held g y v) (g .len) (q .made)) w (q .owner)) (q .top .last) (z .last)) (set lv (q .slot) (q .put)) (z .top) (p .marks) (p .here) (q .depth) (q .len) (q .count) (q .closing) (p .next)
+    unfolding applied withMarks
+    next-held {z} e =
+        record {
+          now = applied text words p (held .now);
+          kept = linked text words n (set (set (readyStore held g y v) (g .len) (q .made)) w (q .owner)) (set lv (q .slot) (q .put)) (q .top) (q .depth) (q .len) (q .count) (q .closing) (q .join) _ _ (turned .turn)
+              (omega (arith, grown .1)) (q .top .last) z refl e;
+          marks = record { stage = refl; endPos = refl; previous = go .previous; omitProWs = refl; trimLine = refl };
+          here = subst (λ (i : ℕ). HereIs text (p .here) i) (go .previous) (go .here);
+          walks = held .walks ∙ go .steps;
+          few = inr (grown .0);
+          within = grown .1;
+          enough = held .enough;
+        }

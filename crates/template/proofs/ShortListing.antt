@@ -234,9 +234,9 @@ module _ (text : Bytes) (words : List ℕ) (good : Good text words) where
           omega (arith, length-append (bodyBytes b) (ascii "]\n"), length-append (bodyBytes b ++ ascii "]\n") [])
 
     -- the whole listing
-    pub listing-short : {first : ℕ} {b : Body} → Holds text words st first b → length (write b) ≤ longest
+    pub listing-short : length st ≤ 8193 → {first : ℕ} {b : Body} → Holds text words st first b → length (write b) ≤ longest
     unfolding write bodyForms writeForm writeHead writeFields
-    listing-short {first} {b} h = go (h .len) (h .few) (h .chain)
+    listing-short most {first} {b} h = go (h .len) (omega (arith, h .few, most)) (h .chain)
       where
         go : (n : ℕ) → n ≤ 8193 → Chain text words st 0 first (h .last) 1 n b → length (write b) ≤ longest
         go zero g c = none b c

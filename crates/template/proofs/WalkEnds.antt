@@ -1,6 +1,6 @@
 -- Where the walk's loop starts, and how it ends: a span turns the card away, the list ends too early, or the root's body is whole.
 -- Assumes nothing.
-use Prim.Native.Nat.{ℕ, _≤_}
+use Prim.Native.Nat.{ℕ, zero, suc, _*_, _≤_, _<_}
 use native.Mathlib.Omega.{arith}
 use mathlib.Core.Path.{_≡_, refl, ap, subst, _∙_}
 use mathlib.Core.Bool.{Bool, true, false, _&&_, _||_, not}
@@ -24,10 +24,11 @@ use Rattle.template.specs.Walk.{walkBy, rootBody, readSpans}
 use Rattle.template.specs.Walk as spec
 use Rattle.template.specs.Compile.{fit}
 use Rattle.template.specs.Element.{Good, emptyElement}
-use Rattle.template.specs.Store.{Chain}
+use Rattle.template.specs.Store.{elementAt, Chain}
 use Rattle.template.specs.Visit.{stageMeans, MarksAre, Tells, visitMeans, VisitIs}
 use Rattle.template.specs.Turn.{emptyFrame, stillStep, LookIs}
 use Rattle.template.specs.Finish.{unfinishedAt, walkAnswer}
+use Rattle.template.specs.declared.element.TemplateElement.the-variants as E
 use Rattle.template.specs.declared.element.Element.{Element}
 use Rattle.template.specs.declared.frame.Frame.{Frame}
 use Rattle.template.specs.declared.frame.Stage.the-variants as G
@@ -54,27 +55,33 @@ firstMarks = record { stage = G.Waiting; «end_pos» = 0; started = false; «omi
 abbrev pub firstHere : Here
 firstHere = record { place = record { line = 1; column = 1 }; at = 0 }
 
-module _ (text : Bytes) (words : List ℕ) (o : Options) where
-  pub held-first : Good text words → Held text words o (replicate 8193 emptyElement) (replicate 64 emptyFrame) emptyFrame firstMarks firstHere 0 1 0 false 0
-  unfolding sumOpen placeAfter linefeeds charactersSince isCharBoundary
-  held-first good =
-      record {
-        now = initial;
-        kept = record {
-          fits = record { inner = (1, (refl, refl, refl), omega arith, chain-empty text words (replicate 8193 emptyElement) 1 1, refl); counted = refl; rooted = tt; outer = tt; deep = refl };
-          pos = omega arith;
-          long = length-replicate 8193 emptyElement;
-          wide = length-replicate 64 emptyFrame;
-          cap = omega arith;
-          bottom = refl;
-        };
-        marks = record { stage = refl; endPos = refl; previous = refl; omitProWs = refl; trimLine = refl };
-        here = record { place = refl; before = omega arith; inside = omega arith; between = rw (valid-first text (good .valid), le-leb 0 (length text) (omega arith)) };
-        walks = refl;
-        few = inl (refl, refl, refl, refl, refl);
-        within = omega arith;
-      }
+-- a store that was just made is empty at 0
+first-empty : (n : ℕ) → elementAt (replicate n emptyElement) 0 .element ≡ E.Empty
+first-empty zero = refl
+first-empty (suc n) = refl
 
+pub held-first : {text : Bytes} {words : List ℕ} {o : Options} (n : ℕ) → 2 * spanCount words < n → 1 < n → Good text words → Held text words o n (replicate n emptyElement) (replicate 64 emptyFrame) emptyFrame firstMarks firstHere 0 1 0 false 0
+unfolding sumOpen placeAfter linefeeds charactersSince isCharBoundary
+held-first {text} {words} n enough more good =
+    record {
+      now = initial;
+      kept = record {
+        fits = record { inner = (1, (refl, refl, refl), omega arith, chain-empty text words (replicate n emptyElement) 1 1, refl); counted = refl; rooted = tt; outer = tt; deep = refl };
+        pos = omega arith;
+        long = length-replicate n emptyElement;
+        wide = length-replicate 64 emptyFrame;
+        cap = omega arith;
+        bottom = first-empty n;
+      };
+      marks = record { stage = refl; endPos = refl; previous = refl; omitProWs = refl; trimLine = refl };
+      here = record { place = refl; before = omega arith; inside = omega arith; between = rw (valid-first text (good .valid), le-leb 0 (length text) (omega arith)) };
+      walks = refl;
+      few = inl (refl, refl, refl, refl, refl);
+      within = more;
+      enough = enough;
+    }
+
+module _ (text : Bytes) (words : List ℕ) (o : Options) where
   -- ---- what a visit ends
 
   apart : (r : Visit) (p : Step) → r ≡ Vis.Step p → r ≡ Vis.End → ⊥
@@ -145,23 +152,23 @@ module _ (text : Bytes) (words : List ℕ) (o : Options) where
   unfolding readSpans spec.finish
   whole room m s es w e q p = rw (w, e) (ap (λ b. fit room (listing b)) (body-of m s (s .top) es q p))
 
-  module _ (st : List Element) (lv : List Frame) (x : Frame) (m : Marks) (depth len count : ℕ) (good : Good text words) (s : State)
-      (k : Kept text words 8193 st lv x depth len count false (s .top) (s .outer)) (within : len ≤ 8192) (done : unfinishedAt text m depth ≡ false) where
-    root-open : (l : Level) (ls : List Level) → length ls ≡ 0 → Filling text words st lv x depth len count l ls → 1 ≤ len → length st ≡ 8193 → len ≤ 8192
+  module _ (n : ℕ) (st : List Element) (lv : List Frame) (x : Frame) (m : Marks) (depth len count : ℕ) (good : Good text words) (s : State)
+      (k : Kept text words n st lv x depth len count false (s .top) (s .outer)) (within : len < n) (done : unfinishedAt text m depth ≡ false) where
+    root-open : (l : Level) (ls : List Level) → length ls ≡ 0 → Filling text words st lv x depth len count l ls → 1 ≤ len → len < length st
         → (es : List Elem) × (l ≡ level root es) × RootIs text words st x len es
-    root-open (level root es) [] q f a b c =
-        (es, refl, record { long = b; pos = a; few = c; chain = subst (λ (i : ℕ). Chain text words st 0 (x .first) (x .last) i len (treeOf es)) (f .inner .1 .2) (f .inner .3) })
-    root-open (level (helper raw p bs g) es) [] q f a b c = absurd (f .rooted)
-    root-open (level (inElse p g d bs) es) [] q f a b c = absurd (f .rooted)
-    root-open (level (wrapper p w) es) [] q f a b c = absurd (f .rooted)
-    root-open l (k ∷ ls) q f a b c = absurd (omega (arith, q))
+    root-open (level root es) [] q f a b =
+        (es, refl, record { pos = a; few = b; chain = subst (λ (i : ℕ). Chain text words st 0 (x .first) (x .last) i len (treeOf es)) (f .inner .1 .2) (f .inner .3) })
+    root-open (level (helper raw p bs g) es) [] q f a b = absurd (f .rooted)
+    root-open (level (inElse p g d bs) es) [] q f a b = absurd (f .rooted)
+    root-open (level (wrapper p w) es) [] q f a b = absurd (f .rooted)
+    root-open l (k ∷ ls) q f a b = absurd (omega (arith, q))
 
     pub root-whole : (es : List Elem) × (s .top ≡ level root es) × RootIs text words st x len es
     root-whole =
         let e : ltb 0 depth ≡ false =
         or-left (ltb 0 depth) (ltb (m .«end_pos») (length text) && not (m .started)) (or-right (not (isFilling (stageMeans (m .stage)))) _ done) in
         let z = ltb-false 0 depth e in
-        root-open (s .top) (s .outer) (omega (arith, z, k .fits .deep)) (k .fits) (k .pos) (k .long) within
+        root-open (s .top) (s .outer) (omega (arith, z, k .fits .deep)) (k .fits) (k .pos) (omega (arith, k .long, within))
 
 -- ---- what is looked at
 

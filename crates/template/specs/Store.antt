@@ -61,8 +61,7 @@ module _ (text : Bytes) (words : List ℕ) where
   pub record Holds (st : List Element) (first : ℕ) (b : Body) : Type 0 where
     pub last : ℕ
     pub len : ℕ
-    pub long : length st ≡ 8193
-    pub few : len ≤ 8193
+    pub few : len ≤ length st
     pub chain : Chain st 0 first last 1 len b
 
   -- the store holds some body
