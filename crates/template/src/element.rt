@@ -85,6 +85,9 @@ impl Element {
     // How many elements the store has.
     pub const LIMIT: usize = 8193;
 
+    // How many the smaller store has, for at most 320 spans.
+    pub const SMALL: usize = 641;
+
     pub const EMPTY: Element = Element {
         element: TemplateElement::Empty,
         place: Place { line: 0, column: 0 },

@@ -6,6 +6,7 @@ mod lines;
 mod list;
 mod raw;
 mod reason;
+mod small;
 mod tag;
 mod turn;
 mod visit;

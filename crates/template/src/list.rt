@@ -49,7 +49,7 @@ impl Waiting {
         inverse: false,
     };
 
-    fn new(block: usize, inverse: bool) -> Waiting
+    pub(crate) fn new(block: usize, inverse: bool) -> Waiting
         ensures { λ r. ⌜ r ≡ waits block inverse ⌝ }
     {
         Waiting {
@@ -246,7 +246,7 @@ pub(crate) fn write_element(
     }
 }
 
-fn has_body(e: Element) -> bool
+pub(crate) fn has_body(e: Element) -> bool
     ensures { λ r. ⌜ r ≡ hasBody (roleOf (e .element)) ⌝ }
 {
     let x = e.element;
@@ -265,7 +265,7 @@ fn has_body(e: Element) -> bool
 }
 
 // The else is still to be listed.
-fn has_else(e: Element, w: Waiting) -> bool
+pub(crate) fn has_else(e: Element, w: Waiting) -> bool
     ensures { λ r. ⌜ r ≡ (e .inverted && not (w .inverse)) ⌝ }
 {
     if e.inverted {
@@ -275,7 +275,7 @@ fn has_else(e: Element, w: Waiting) -> bool
 }
 
 // The end of a body: more of the block follows, its else, or the block ends too.
-fn write_end(out: &mut [u8], at: usize, more: bool) -> usize
+pub(crate) fn write_end(out: &mut [u8], at: usize, more: bool) -> usize
     ensures { λ r. ⌜ Written (bodyEnd more) (now (out .entry)) at (now (out .exit)) r ⌝ }
 {
     if more {
@@ -285,7 +285,7 @@ fn write_end(out: &mut [u8], at: usize, more: bool) -> usize
 }
 
 // How many blocks wait, when one more does or not.
-fn deeper(depth: usize, more: bool) -> usize
+pub(crate) fn deeper(depth: usize, more: bool) -> usize
     requires { ⌜ depth < 8193 ⌝ }
     ensures { λ r. ⌜ r ≡ deeper depth more ⌝ }
 {
@@ -296,7 +296,7 @@ fn deeper(depth: usize, more: bool) -> usize
 }
 
 // What comes after an element's opening: its body, if it has one.
-fn link_inside(e: Element, more: bool) -> usize
+pub(crate) fn link_inside(e: Element, more: bool) -> usize
     ensures { λ r. ⌜ r ≡ linkInside e more ⌝ }
 {
     if more {
@@ -306,7 +306,7 @@ fn link_inside(e: Element, more: bool) -> usize
 }
 
 // What comes after a body: the block's else, if that is still to be listed.
-fn link_behind(e: Element, more: bool) -> usize
+pub(crate) fn link_behind(e: Element, more: bool) -> usize
     ensures { λ r. ⌜ r ≡ linkBehind e more ⌝ }
 {
     if more {

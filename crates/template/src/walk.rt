@@ -41,7 +41,7 @@ ghost use Rattle.template.specs.Turn.{LookIs};
 ghost use Rattle.template.specs.Finish.{unfinishedAt, RestIs, walkAnswer};
 
 // A turn's visit; while a block closes, nothing is visited.
-fn look(
+pub(crate) fn look(
     text: &[u8],
     starts: &[bool],
     ends: &[bool],
@@ -71,7 +71,7 @@ fn look(
 }
 
 // 7 at the end of the list.
-fn unfinished(text: &[u8], m: Marks, depth: usize) -> bool
+pub(crate) fn unfinished(text: &[u8], m: Marks, depth: usize) -> bool
     ensures { λ r. ⌜ r ≡ unfinishedAt (now (text .entry)) m depth ⌝ }
 {
     let g = m.stage;
@@ -85,7 +85,7 @@ fn unfinished(text: &[u8], m: Marks, depth: usize) -> bool
 }
 
 // The text after the last previous end.
-fn rest_of(text: &[u8], words: &[u32], m: Marks, h: Here) -> Element
+pub(crate) fn rest_of(text: &[u8], words: &[u32], m: Marks, h: Here) -> Element
     ensures { λ r. ⌜ RestIs (now (text .entry)) (now (words .entry)) m h r ⌝ }
 {
     let from = h.place;
