@@ -155,7 +155,7 @@ class Walk:
 
     def read(self, s, rest):
         try:
-            x = Read(self.text).tag(s, rest)
+            x = Read(self.text, True).tag(s, rest)
         except expressions.Fault as f:
             raise Refused(NUMBERS[f.args[0]], len(self.all) if f.args[0] == " ended" else s.number)
         if s.tag in OPENS or s.tag == 10:

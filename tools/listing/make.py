@@ -60,6 +60,7 @@ class Lister(expressions.Reader):
             q = self.next(rest)[0]
             if q.tag == 31:
                 kept, rest = expressions.requoted(self.own(q.start, q.end)), rest[1:]
+        self.judge(kept)
         return (b"[lit " + quoted(kept) + b"]\n", None), rest
 
     def children(self, spans, limit, depth):

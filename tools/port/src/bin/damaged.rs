@@ -2,13 +2,15 @@
 //! neither read nor written.
 //!
 //!     damaged CARDS COUNT [SEED [FIRST]]
+//!     damaged records CARDS COUNT [SEED [FIRST]]
 //!
 //! CARDS is a file of records. Call number n is made from SEED and n alone, so a call that failed is run
 //! again by FIRST. Ends with a panic, or by a signal, at the first call that breaks what the header says.
+//! With `records` nothing is called: the cards of COUNT numbers are written as records.
 use port::{Answer, compile2, with_stack};
 use records::Card;
 use std::ffi::c_void;
-use std::io::BufReader;
+use std::io::{self, BufReader, BufWriter};
 
 const PAGE: usize = 4096;
 const CANARIES: usize = 256;
@@ -239,14 +241,20 @@ fn place_is_possible(c: &Card, room: usize, answer: Answer) {
     assert!(good, "{answer:?} is no answer");
 }
 
-/// The call that number n stands for, and, where it lists, the same with just enough room and with a byte
-/// less. Which number was answered, 0 for a listing, and how many calls were made.
-fn calls(g: &mut Grounds, cards: &[Card], seed: u64, n: u64) -> (usize, u64) {
+/// What number n stands for: its random numbers so far, and its card.
+fn numbered(cards: &[Card], seed: u64, n: u64) -> (Random, Card) {
     let mut r = Random(seed ^ n.wrapping_mul(0xd134_2543_de82_ef95));
     let mut c = cards[r.below(cards.len())].clone();
     for _ in 0..r.below(4) {
         damage(&mut c, &mut r);
     }
+    (r, c)
+}
+
+/// The call that number n stands for, and, where it lists, the same with just enough room and with a byte
+/// less. Which number was answered, 0 for a listing, and how many calls were made.
+fn calls(g: &mut Grounds, cards: &[Card], seed: u64, n: u64) -> (usize, u64) {
+    let (mut r, c) = numbered(cards, seed, n);
     let room = r.of(&[
         0, 1, 10, 11, 12, 100, 1000, 4096, 65536, 65536, 65536, 65536,
     ]);
@@ -285,12 +293,23 @@ fn calls(g: &mut Grounds, cards: &[Card], seed: u64, n: u64) -> (usize, u64) {
 }
 
 fn run() {
-    let args: Vec<String> = std::env::args().skip(1).collect();
+    let mut args: Vec<String> = std::env::args().skip(1).collect();
+    let only_records = args.first().is_some_and(|a| a == "records");
+    if only_records {
+        args.remove(0);
+    }
     let number = |i: usize, other: u64| args.get(i).map_or(other, |a| a.parse().expect("a number"));
     let file = std::fs::File::open(args.first().expect("damaged CARDS COUNT [SEED [FIRST]]"));
     let cards =
         Card::read_all(&mut BufReader::new(file.expect("the file of records"))).expect("records");
     let (count, seed, first) = (number(1, 1_000_000), number(2, 1), number(3, 0));
+    if only_records {
+        let mut output = BufWriter::new(io::stdout().lock());
+        for n in first..first + count {
+            numbered(&cards, seed, n).1.write(&mut output).unwrap();
+        }
+        return;
+    }
     let mut g = Grounds {
         text: Ground::new(1 << 17),
         spans: Ground::new(1 << 17),
