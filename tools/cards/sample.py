@@ -1,21 +1,23 @@
 #!/usr/bin/env python3
 """Compares the port with the model of document 01 in model.py.
 
-    compare.py --port COMMAND [--keep FOLDER] < RECORDS
+    sample.py --port COMMAND [--keep FOLDER] < RECORDS
 
 RECORDS and the port's answers have the forms of tools/oracle/README.md. The model is written from document 01 and
-shares nothing with the port, so number, place and every byte of a listing have to be the same. What differs is kept in
-FOLDER, with both answers, and the exit status is then 1.
+shares nothing with the port, so number, place and every byte of a listing have to be the same. What differs is printed,
+its record is kept in FOLDER, and the exit status is then 1.
 """
 import argparse
 import collections
 import os
 import shlex
 import struct
-import subprocess
 import sys
 
 import model
+
+sys.path.append(os.path.join(os.path.dirname(os.path.abspath(__file__)), "..", "oracle"))
+from compare import run  # noqa: E402
 
 BATCH = 5000
 
@@ -26,15 +28,6 @@ def cards(stream):
         options, count, length = struct.unpack("<3I", head)
         body = stream.read(4 * count + length)
         yield options, list(struct.unpack_from("<%dI" % count, body)), body[4 * count :], head + body
-
-
-def answers(command, batch):
-    out = subprocess.run(command, input=b"".join(c[3] for c in batch), stdout=subprocess.PIPE, check=True).stdout
-    at = 0
-    while at < len(out):
-        n = struct.unpack_from("<I", out, at)[0]
-        yield out[at + 4 : at + 4 + n]
-        at += 4 + n
 
 
 def kind(answer):
@@ -48,8 +41,7 @@ def main():
     args = a.parse_args()
     seen, wrong, stream = collections.Counter(), 0, cards(sys.stdin.buffer)
     while batch := [c for _, c in zip(range(BATCH), stream)]:
-        given = list(answers(shlex.split(args.port), batch))
-        assert len(given) == len(batch)
+        given = run(shlex.split(args.port), b"".join(c[3] for c in batch), len(batch))
         for (options, words, text, record), port in zip(batch, given):
             expected = model.answer(options, words, text, sys.maxsize)
             seen[kind(expected)] += 1
