@@ -92,7 +92,7 @@ module _ (text : Bytes) (words : List ℕ) (st st′ : List Element) (lv lv′ :
             place = p;
             wrap = w;
             body = treeOf es;
-            is = wrapper-like text words (some p) (elementAt st (x .block)) (elementAt st′ (x .block)) (ap (λ (v : Element). v .element) q) (ap (λ (v : Element). v .place) q) w (a .0);
+            is = wrapper-like text words (some p) (elementAt st (x .block)) (elementAt st′ (x .block)) (ap (λ (v : Element). v .element) q) (ap (λ (v : Element). v .name) q) (ap (λ (v : Element). v .place) q) w (a .0);
             last = ap (λ (v : Element). v .next) q ∙ a .1;
             link = a .2;
             plain = refl;
@@ -162,7 +162,7 @@ module _ (text : Bytes) (words : List ℕ) (st st′ : List Element) (lv lv′ :
     m,
     shut .1,
     up,
-    helper-like text words pl (elementAt st w) (elementAt st′ w) (ap (λ (z : Element). z .element) r) (ap (λ (z : Element). z .place) r) h is,
+    helper-like text words pl (elementAt st w) (elementAt st′ w) (ap (λ (z : Element). z .element) r) (ap (λ (z : Element). z .name) r) (ap (λ (z : Element). z .place) r) h is,
     ap (λ (z : Element). z .chain) r,
     (
       shut .0,
@@ -301,7 +301,7 @@ module _ (text : Bytes) (words : List ℕ) (st st′ : List Element) (lv lv′ :
           (record {
             up = k .shut .1;
             node = subst (λ (e : T.Elem). Node text words st′ (x .block) len e) (k .whole) (
-              wrapper-like text words (some (k .place)) (elementAt st (x .block)) (elementAt st′ (x .block)) (ap (λ (z : Element). z .element) r) (ap (λ (z : Element). z .place) r) (k .wrap) (k .is),
+              wrapper-like text words (some (k .place)) (elementAt st (x .block)) (elementAt st′ (x .block)) (ap (λ (z : Element). z .element) r) (ap (λ (z : Element). z .name) r) (ap (λ (z : Element). z .place) r) (k .wrap) (k .is),
               ap (λ (z : Element). z .inverted) r ∙ k .plain,
               (
                 k .shut .0,

@@ -200,5 +200,5 @@ pub bytes-are : {x y l m : Bytes} {at r : ℕ} → x ≡ y → Written y l at m 
 bytes-are {l = l} {m = m} {at = at} {r = r} e w = subst (λ z. Written z l at m r) (sym e) w
 
 -- a text is as the walk makes it
-pub raw-sound : (text : Bytes) (words : List ℕ) (e : Element) {o : RawString} → e .element ≡ E.RawString o → Sound text words (e .element) → RawGood text words o
-raw-sound text words e t s = subst (λ x. Sound text words x) t s
+pub raw-sound : (text : Bytes) (words : List ℕ) (e : Element) {o : RawString} → e .element ≡ E.RawString o → Sound text words (e .name) (e .element) → RawGood text words o
+raw-sound text words e t s = subst (λ x. Sound text words (e .name) x) t s

@@ -22,7 +22,7 @@ use Rattle.listing.specs.Reading.{Elem, item}
 use Rattle.listing.specs.Nesting.{nestElem, nestBody}
 use Rattle.template.specs.State.{bodyOf}
 use Rattle.template.specs.Escapes.{escapesTo, badEscapes, unescaped}
-use Rattle.template.specs.Element.{Good, RawGood, rawMeans, itemMeans, placeMeans, newElement, emptyElement}
+use Rattle.template.specs.Element.{Good, RawGood, rawMeans, itemMeans, placeMeans, newElement, namedElement, emptyElement}
 use Rattle.template.specs.Element as role
 use Rattle.template.specs.Store.{elementAt, Is, Chain, Holds}
 use Rattle.template.specs.Visit.{HereIs, leafMeans, Made}
@@ -84,7 +84,7 @@ module _ (text : Bytes) (words : List ℕ) (m : Marks) (h : Here) (r : Element) 
       let x : Element = newElement (E.RawString (restText text words m)) (r .place) in
       let y : Is text words role.leaf (some (placeOf (r .place))) x = record { role = refl; place = line-some text (m .«end_pos») (r .place) rest-place; sound = rest-good } in
       record {
-        new = is .new ∙ ap (λ (e : Element). newElement (e .element) (r .place)) (sym (is .new));
+        new = is .new ∙ ap (λ (e : Element). namedElement (e .element) (e .name) (r .place)) (sym (is .new));
         is = subst (λ (e : Element). Is text words role.leaf (some (placeOf (r .place))) e) (sym (is .new)) y;
       }
 

@@ -126,7 +126,7 @@ module _ (text : Bytes) (words : List ℕ) where
           place = k .place;
           wrap = k .wrap;
           body = k .body;
-          is = wrapper-like text words (some (k .place)) (elementAt st (x .block)) (elementAt st′ (x .block)) (ap (λ (v : Element). v .element) q) (ap (λ (v : Element). v .place) q) (k .wrap) (k .is);
+          is = wrapper-like text words (some (k .place)) (elementAt st (x .block)) (elementAt st′ (x .block)) (ap (λ (v : Element). v .element) q) (ap (λ (v : Element). v .name) q) (ap (λ (v : Element). v .place) q) (k .wrap) (k .is);
           last = ap (λ (v : Element). v .next) q ∙ k .last;
           link = k .link;
           plain = k .plain;

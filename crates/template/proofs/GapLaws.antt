@@ -14,6 +14,7 @@ use Rattle.support.specs.Position.{Place, at, linefeeds, placeAfter, placeAt, p
 use Rattle.support.specs.declared.position.Place as code
 use Rattle.json_path.specs.Span.{Span, spanCount}
 use Rattle.json_path.proofs.Spans.{escapes-end}
+use Rattle.expression.specs.declared.parameter.Parameter.{Parameter}
 use Rattle.listing.specs.Tree as T
 use Rattle.listing.specs.Reading.{item}
 use Rattle.template.specs.State as S
@@ -21,7 +22,7 @@ use Rattle.template.specs.State.{Level, State, state, prevEnd, addTo}
 use Rattle.template.specs.Nests.{keptGap}
 use Rattle.template.specs.Escapes.{escapesTo, badEscapes, unescaped}
 use Rattle.template.specs.Step.{trimLine, trimMarked, trimFront, afterGap, takeGap}
-use Rattle.template.specs.Element.{frontTrim, placeMeans, rawMeans, itemMeans, RawGood, leaf, roleOf, Sound, newElement}
+use Rattle.template.specs.Element.{frontTrim, placeMeans, rawMeans, itemMeans, RawGood, leaf, roleOf, Sound, noName, newElement, namedElement}
 use Rattle.template.specs.Visit.{stageMeans, MarksAre, HereIs, leafMeans, gapEffect, Made, GapMade}
 use Rattle.template.specs.Visiting.{SpanFits, frontOf, rawFront, gapText}
 use Rattle.template.specs.declared.element.Front.the-variants as Front
@@ -45,9 +46,9 @@ place-some text n {p} e =
 
 -- ---- elements
 
-pub made : (text : Bytes) (words : List ℕ) (x : TemplateElement) (p : code.Place) → placeMeans p ≡ some (placeOf p) → Sound text words x
-    → Made text words (roleOf x) (newElement x p)
-made text words x p e h = record { new = refl; is = record { role = refl; place = e; sound = h } }
+pub made : (text : Bytes) (words : List ℕ) (x : TemplateElement) (n : Parameter) (p : code.Place) → placeMeans p ≡ some (placeOf p) → Sound text words n x
+    → Made text words (roleOf x) (namedElement x n p)
+made text words x n p e h = record { new = refl; is = record { role = refl; place = e; sound = h } }
 
 -- ---- the front of a text
 
@@ -101,7 +102,7 @@ module _ (text : Bytes) (words : List ℕ) (s : Span) {m : Marks} {st : State} (
     gap-leaf = rw new (cc (q, gap-means))
 
     pub gap-made : {here : Here} (b : Bool) → SpanFits text s → HereIs text here (prevEnd st) → prevEnd st ≤ s .start → GapMade text words b e
-    gap-made true f i k = subst (λ z. Made text words leaf z) (sym new) (made text words (E.RawString (gapText words m s)) p (place-some text (s .start) q) (gap-good f i k))
+    gap-made true f i k = subst (λ z. Made text words leaf z) (sym new) (made text words (E.RawString (gapText words m s)) noName p (place-some text (s .start) q) (gap-good f i k))
     gap-made false f i k = tt
 
     -- the state behind the gap

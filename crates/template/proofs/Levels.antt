@@ -44,6 +44,7 @@ Rooted (wrapper p w) (l ∷ ls) = Unit {0}
 -- the element has another body at most
 pub record Kin (e e′ : Element) : Type 0 where
   pub element : e′ .element ≡ e .element
+  pub name : e′ .name ≡ e .name
   pub place : e′ .place ≡ e .place
   pub next : e′ .next ≡ e .next
   pub chain : e′ .chain ≡ e .chain
@@ -53,6 +54,7 @@ pub kin-same : (e e′ : Element) → e′ ≡ e → Kin e e′
 kin-same e e′ q =
     record {
       element = ap (λ (v : Element). v .element) q;
+      name = ap (λ (v : Element). v .name) q;
       place = ap (λ (v : Element). v .place) q;
       next = ap (λ (v : Element). v .next) q;
       chain = ap (λ (v : Element). v .chain) q;
@@ -128,12 +130,12 @@ module _ (text : Bytes) (words : List ℕ) where
         )
 
     pub frame-gathered : (p : Place) (bs : List Branch) (o w : ℕ) (h : Head) → 0 < o → Same st st′ 1 w → Kin (elementAt st w) (elementAt st′ w) → Gathered st p o w h bs → Gathered st′ p o w h bs
-    frame-gathered p [] o w h a s k c = (c .0, helper-like text words (some p) (elementAt st w) (elementAt st′ w) (k .element) (k .place) h (c .1), k .next ∙ c .2)
+    frame-gathered p [] o w h a s k c = (c .0, helper-like text words (some p) (elementAt st w) (elementAt st′ w) (k .element) (k .name) (k .place) h (c .1), k .next ∙ c .2)
     frame-gathered p (closed g b ∷ bs) o w h a s k c =
         let v = c .0 in
         let low = gathered-low st p bs o v g (c .6) in (
           v,
-          helper-like text words none (elementAt st w) (elementAt st′ w) (k .element) (k .place) h (c .1),
+          helper-like text words none (elementAt st w) (elementAt st′ w) (k .element) (k .name) (k .place) h (c .1),
           k .next ∙ c .2,
           k .chain ∙ c .3,
           k .inverse ∙ c .4,
@@ -169,7 +171,7 @@ module _ (text : Bytes) (words : List ℕ) where
         )
     frame-lead x lo (wrapper p w) s c =
         let q : elementAt st′ (x .block) ≡ elementAt st (x .block) = s (x .block) (c .4) (omega (arith, c .5)) in (
-          wrapper-like text words (some p) (elementAt st (x .block)) (elementAt st′ (x .block)) (ap (λ (v : Element). v .element) q) (ap (λ (v : Element). v .place) q) w (c .0),
+          wrapper-like text words (some p) (elementAt st (x .block)) (elementAt st′ (x .block)) (ap (λ (v : Element). v .element) q) (ap (λ (v : Element). v .name) q) (ap (λ (v : Element). v .place) q) w (c .0),
           ap (λ (v : Element). v .next) q ∙ c .1,
           c .2,
           c .3,

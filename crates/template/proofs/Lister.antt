@@ -17,9 +17,9 @@ use Rattle.listing.specs.Listing.{bit, placeField, indentField, callForms, bloc
 use Rattle.listing.specs.Written.{largest, Written}
 use Rattle.listing.proofs.Writes.{written-then, written-length}
 use Rattle.listing.proofs.ChildWrites.{call-join, block-join}
-use Rattle.template.specs.Element.{roleOf, Sound}
+use Rattle.template.specs.Element.{roleOf, hasBody, Sound}
 use Rattle.template.specs.Store.{elementAt, Leaf, Helper, Wrapper, Chain, ElseAt, Holds, Stored}
-use Rattle.template.specs.Opening.{blockOpening, wrapOpening, openingBy, opening, hasBody, waits, bodyEnd, deeper, linkInside, linkBehind}
+use Rattle.template.specs.Opening.{blockOpening, wrapOpening, openingBy, opening, waits, bodyEnd, deeper, linkInside, linkBehind}
 use Rattle.template.specs.declared.element.Element.{Element}
 use Rattle.template.specs.declared.list.Waiting as code
 use Rattle.template.proofs.BodyAt.{elseOf, bodyAt, chain-read, else-read, holds-one}
@@ -351,10 +351,10 @@ module _ (text : Bytes) (words : List ℕ) (st : List Element) where
           go end c = absurd (some (c .0))
           go (then e r) c = omega (arith, c .1, c .2, c .3, s .near, s .low)
 
-      pub element-sound : Sound text words (elementAt st at .element)
+      pub element-sound : Sound text words (elementAt st at .name) (elementAt st at .element)
       element-sound = go (s .here) (s .chain)
         where
-          go : (b : Body) → Chain text words st (s .before) at (s .last) (s .lo) (s .hi) b → Sound text words (elementAt st at .element)
+          go : (b : Body) → Chain text words st (s .before) at (s .last) (s .lo) (s .hi) b → Sound text words (elementAt st at .name) (elementAt st at .element)
           go end c = absurd (some (c .0))
           go (then (item p x) r) c = c .4 .is .sound
           go (then (block p v h b x) r) c = c .4 .3 .is .sound

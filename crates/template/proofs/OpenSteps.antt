@@ -159,6 +159,7 @@ module _ (text : Bytes) (words : List ℕ) where
           frame-gathered text words st st′ p bs (x .block) (c .0) h (c .5) (λ i a b. same i a (omega (arith, b, c .6)) (λ n. omega (arith, n, b, seal-owner)))
           (record {
             element = ap (λ (v : Element). v .element) held-at;
+            name = ap (λ (v : Element). v .name) held-at;
             place = ap (λ (v : Element). v .place) held-at;
             next = ap (λ (v : Element). v .next) held-at;
             chain = ap (λ (v : Element). v .chain) held-at;

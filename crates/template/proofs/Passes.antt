@@ -13,9 +13,9 @@ use Rattle.listing.specs.Written.{largest, Written}
 use Rattle.listing.proofs.Writes.{written-length}
 use Rattle.template.specs.Compile.{fit}
 use Rattle.template.specs.Answers.{AnswerIs}
-use Rattle.template.specs.Element.{Good, Sound, roleOf}
+use Rattle.template.specs.Element.{Good, Sound, roleOf, hasBody}
 use Rattle.template.specs.Store.{elementAt, Holds, Stored}
-use Rattle.template.specs.Opening.{opening, hasBody, waits, bodyEnd, deeper, linkInside, linkBehind}
+use Rattle.template.specs.Opening.{opening, waits, bodyEnd, deeper, linkInside, linkBehind}
 use Rattle.template.specs.declared.compile.Answer.the-variants.{Listed, Refused}
 use Rattle.template.specs.declared.element.Element.{Element}
 use Rattle.template.specs.declared.list.Waiting as code
@@ -80,7 +80,7 @@ module _ {text : Bytes} {words : List ℕ} {st : List Element} {first n : ℕ} {
     pub depth-in : depth < n
     depth-in = omega (arith, depth-near text words st (s .small) (s .state) is-some, s .long)
 
-    pub element-good : Sound text words (elementAt st at .element)
+    pub element-good : Sound text words (elementAt st at .name) (elementAt st at .element)
     element-good = element-sound text words st (s .small) (s .state) is-some
 
     pub element-turned : {more : Bool} {v : code.Waiting} {k : Bytes} {q to deep : ℕ} → more ≡ hasBody (roleOf (elementAt st at .element)) → v ≡ waits at false

@@ -48,7 +48,7 @@ places-small [] [] s i = record { line = omega arith; column = omega arith }
 places-small [] (u ∷ us) s i = absurd s
 places-small (x ∷ xs) [] s i = absurd s
 places-small (x ∷ xs) (u ∷ us) s zero =
-    let p = s .0 .1 .1 .1 .0 .1 .1 in
+    let p = s .0 .1 .1 .1 .1 .0 .1 .1 in
     record { line = p .0 .1; column = p .1 .0 .1 }
 places-small (x ∷ xs) (u ∷ us) s (suc i) = places-small xs us (s .1) i
 

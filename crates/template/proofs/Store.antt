@@ -28,6 +28,7 @@ SameBut st st′ z lo hi = (i : ℕ) → lo ≤ i → i < hi → (i ≡ z → �
 -- the two elements are alike but for what is after them
 pub record Alike (e e′ : Element) : Type 0 where
   pub element : e′ .element ≡ e .element
+  pub name : e′ .name ≡ e .name
   pub place : e′ .place ≡ e .place
   pub template : e′ .template ≡ e .template
   pub inverse : e′ .inverse ≡ e .inverse
@@ -38,6 +39,7 @@ pub alike : (e e′ : Element) → e′ ≡ e → Alike e e′
 alike e e′ q =
     record {
       element = ap (λ (v : Element). v .element) q;
+      name = ap (λ (v : Element). v .name) q;
       place = ap (λ (v : Element). v .place) q;
       template = ap (λ (v : Element). v .template) q;
       inverse = ap (λ (v : Element). v .inverse) q;
@@ -49,6 +51,7 @@ pub alike-followed : (e e′ : Element) (at : ℕ) → e′ ≡ followedBy e at 
 alike-followed e e′ at q =
     record {
       element = ap (λ (v : Element). v .element) q;
+      name = ap (λ (v : Element). v .name) q;
       place = ap (λ (v : Element). v .place) q;
       template = ap (λ (v : Element). v .template) q;
       inverse = ap (λ (v : Element). v .inverse) q;
@@ -69,20 +72,20 @@ snoc end g = then g end
 snoc (then e r) g = then e (snoc r g)
 
 module _ (text : Bytes) (words : List ℕ) where
-  -- ---- what an element denotes is told by what it holds and by its place
+  -- ---- what an element denotes is told by what it holds, its name and its place
 
-  pub is-like : (r : Role) (p : Option Place) (e e′ : Element) → e′ .element ≡ e .element → placeMeans (e′ .place) ≡ p → Is text words r p e → Is text words r p e′
-  is-like r p e e′ a b c = record { role = ap roleOf a ∙ c .role; place = b; sound = rw a (c .sound) }
+  pub is-like : (r : Role) (p : Option Place) (e e′ : Element) → e′ .element ≡ e .element → e′ .name ≡ e .name → placeMeans (e′ .place) ≡ p → Is text words r p e → Is text words r p e′
+  is-like r p e e′ a n b c = record { role = ap roleOf a ∙ c .role; place = b; sound = rw (a, n) (c .sound) }
 
-  module _ (p : Option Place) (e e′ : Element) (a : e′ .element ≡ e .element) (b : e′ .place ≡ e .place) where
+  module _ (p : Option Place) (e e′ : Element) (a : e′ .element ≡ e .element) (n : e′ .name ≡ e .name) (b : e′ .place ≡ e .place) where
     pub leaf-like : (x : Item) → Leaf text words p x e → Leaf text words p x e′
-    leaf-like x c = record { is = is-like _ p e e′ a (ap placeMeans b ∙ c .is .place) (c .is); means = ap (itemMeans text words) a ∙ c .means }
+    leaf-like x c = record { is = is-like _ p e e′ a n (ap placeMeans b ∙ c .is .place) (c .is); means = ap (itemMeans text words) a ∙ c .means }
 
     pub helper-like : (h : Head) → Helper text words p h e → Helper text words p h e′
-    helper-like h c = record { is = is-like _ p e e′ a (ap placeMeans b ∙ c .is .place) (c .is); means = ap (headMeans text words) a ∙ c .means }
+    helper-like h c = record { is = is-like _ p e e′ a n (ap placeMeans b ∙ c .is .place) (c .is); means = ap (headMeans text words) a ∙ c .means }
 
     pub wrapper-like : (w : Wrap) → Wrapper text words p w e → Wrapper text words p w e′
-    wrapper-like w c = record { is = is-like _ p e e′ a (ap placeMeans b ∙ c .is .place) (c .is); means = ap (wrapMeans text words) a ∙ c .means }
+    wrapper-like w c = record { is = is-like _ p e e′ a n (ap placeMeans b ∙ c .is .place) (c .is); means = ap (wrapMeans text words) a ∙ c .means }
 
   -- ---- the same chain in another store
 
@@ -103,14 +106,14 @@ module _ (text : Bytes) (words : List ℕ) where
           )
 
       pub move-node : (e : Elem) (l m : ℕ) → Alike (elementAt st l) (elementAt st′ l) → Same st st′ (l + 1) m → Node text words st l m e → Node text words st′ l m e
-      move-node (item p x) l m a s c = leaf-like p (elementAt st l) (elementAt st′ l) (a .element) (a .place) x c
+      move-node (item p x) l m a s c = leaf-like p (elementAt st l) (elementAt st′ l) (a .element) (a .name) (a .place) x c
       move-node (block p d h b e) l m a s c =
           let k = c .0 in
           let y = c .5 .0 in (
             k,
             c .1,
             c .2,
-            helper-like p (elementAt st l) (elementAt st′ l) (a .element) (a .place) h (c .3),
+            helper-like p (elementAt st l) (elementAt st′ l) (a .element) (a .name) (a .place) h (c .3),
             a .chain ∙ c .4,
             (
               y,
@@ -123,7 +126,7 @@ module _ (text : Bytes) (words : List ℕ) where
           )
       move-node (wrap p w b) l m a s c =
           let y = c .2 .0 in (
-            wrapper-like p (elementAt st l) (elementAt st′ l) (a .element) (a .place) w (c .0),
+            wrapper-like p (elementAt st l) (elementAt st′ l) (a .element) (a .name) (a .place) w (c .0),
             a .inverted ∙ c .1,
             (
               y,

@@ -25,7 +25,7 @@ use Rattle.template.specs.State.{Level, level, State, state, ownerOf, ow
 use Rattle.template.specs.Nests.{isFilling, isOfKind, tagNests, nests}
 use Rattle.template.specs.Refusal.{maxOpen, oneTooMany, tooManyOpen}
 use Rattle.template.specs.Step.{anyBlanks, afterGap, takeGap, removePreviousWhitespace, processStandalone, standalone, indent, ownerFor, standaloneOf, tagTrims, tagEffect, tagStep}
-use Rattle.template.specs.Element.{backTrim, callAt, blockAt, indentMeans, itemMeans, headMeans, wrapMeans, newElement}
+use Rattle.template.specs.Element.{backTrim, callAt, blockAt, indentMeans, itemMeans, headMeans, wrapMeans, newElement, namedElement}
 use Rattle.template.specs.TagRead.{tagMeans}
 use Rattle.template.specs.Visit.{stageMeans, endMeans, withMarks, leafMeans, gapEffect, trimEffect, actEffect, applied, Allowed}
 use Rattle.template.specs.Visiting.{Visited, TagMakes, gapText, trimOf, cutOf, lineOf, stageBehind, helperOf, decoratorOf, elementFor, actFor, indentOf, CutIs, LineIs, StageIs, ElementIs, ActIs, IndentIs, TagStepIs}
@@ -164,7 +164,7 @@ module _ (text : Bytes) (words : List ℕ) (prevent isPartial : Bool) (s : Span)
     -- both sides: the specification's state, and the code's
     abbrev Acts : Tag → Type 0
     Acts k = withEndPos n (tagEffect text prevent isPartial k s read (state g t u f (m .«omit_pro_ws») (m .«trim_line_required»)))
-        ≡ withMarks m (actEffect text words (actFor k (newElement (elementFor k s x mark ind) p)) (state a t u b c d))
+        ≡ withMarks m (actEffect text words (actFor k (namedElement (elementFor k s x mark ind) (x .name) p)) (state a t u b c d))
 
     pub acts : (k : Tag) → ind ≡ indentOf k prevent (x .«omit_pre_ws») → stageMeans (m .stage) ≡ stageBehind k → Ready k g t u → Acts k
     unfolding tagEffect ownerFor openBlock withMarks itemMeans headMeans wrapMeans
@@ -227,18 +227,18 @@ module _ (text : Bytes) (words : List ℕ) (o : Options) (v : View) (s : Span) (
     fewer e = let z = ltb-false maxOpen (suc (openCount st)) e in omega arith
 
     may : (mark ind : Bool) (k : Tag) → tagNests k gap st ≡ true → tooManyOpen k st ≡ false
-        → asName (paramMeans text words (x .name)) ≡ nameOf (callAt text words (x .from) (s .end)) → Allowed text words (actFor k (newElement (elementFor k s x mark ind) (here .place))) st
+        → asName (paramMeans text words (x .name)) ≡ nameOf (callAt text words (x .from) (s .end)) → Allowed text words (actFor k (namedElement (elementFor k s x mark ind) (x .name) (here .place))) st
     unfolding tagNests wrapMeans
-    may mark ind (K.blockStart K.helperBlock) n c q = (made text words (E.HelperBlock (helperOf x s mark)) (here .place) (place-some text (s .start) (h .place)) q, fewer c)
-    may mark ind (K.blockStart K.rawBlock) n c q = (made text words (E.HelperBlock (helperOf x s mark)) (here .place) (place-some text (s .start) (h .place)) q, fewer c)
-    may mark ind (K.blockStart K.decoratorBlock) n c q = (made text words (E.DecoratorBlock (decoratorOf x s mark ind)) (here .place) (place-some text (s .start) (h .place)) q, refl, fewer c)
-    may mark ind (K.blockStart K.partialBlock) n c q = (made text words (E.PartialBlock (decoratorOf x s mark ind)) (here .place) (place-some text (s .start) (h .place)) q, refl, fewer c)
+    may mark ind (K.blockStart K.helperBlock) n c q = (made text words (E.HelperBlock (helperOf x s mark)) (x .name) (here .place) (place-some text (s .start) (h .place)) q, fewer c)
+    may mark ind (K.blockStart K.rawBlock) n c q = (made text words (E.HelperBlock (helperOf x s mark)) (x .name) (here .place) (place-some text (s .start) (h .place)) q, fewer c)
+    may mark ind (K.blockStart K.decoratorBlock) n c q = (made text words (E.DecoratorBlock (decoratorOf x s mark ind)) (x .name) (here .place) (place-some text (s .start) (h .place)) q, refl, fewer c)
+    may mark ind (K.blockStart K.partialBlock) n c q = (made text words (E.PartialBlock (decoratorOf x s mark ind)) (x .name) (here .place) (place-some text (s .start) (h .place)) q, refl, fewer c)
     may mark ind K.invertTag n c q = and-right (isFilling (st .stage)) _ n
-    may mark ind K.invertChainTag n c q = (made text words (E.HelperBlock (helperOf x s mark)) (here .place) (place-some text (s .start) (h .place)) q, and-right (isFilling (st .stage)) _ n, fewer c)
-    may mark ind K.expression n c q = made text words (E.Expression (helperOf x s mark)) (here .place) (place-some text (s .start) (h .place)) tt
-    may mark ind K.htmlExpression n c q = made text words (E.HtmlExpression (helperOf x s mark)) (here .place) (place-some text (s .start) (h .place)) tt
-    may mark ind K.decoratorExpression n c q = made text words (E.DecoratorExpression (decoratorOf x s mark ind)) (here .place) (place-some text (s .start) (h .place)) tt
-    may mark ind K.partialExpression n c q = made text words (E.PartialExpression (decoratorOf x s mark ind)) (here .place) (place-some text (s .start) (h .place)) tt
+    may mark ind K.invertChainTag n c q = (made text words (E.HelperBlock (helperOf x s mark)) (x .name) (here .place) (place-some text (s .start) (h .place)) q, and-right (isFilling (st .stage)) _ n, fewer c)
+    may mark ind K.expression n c q = made text words (E.Expression (helperOf x s mark)) (x .name) (here .place) (place-some text (s .start) (h .place)) tt
+    may mark ind K.htmlExpression n c q = made text words (E.HtmlExpression (helperOf x s mark)) (x .name) (here .place) (place-some text (s .start) (h .place)) tt
+    may mark ind K.decoratorExpression n c q = made text words (E.DecoratorExpression (decoratorOf x s mark ind)) (x .name) (here .place) (place-some text (s .start) (h .place)) tt
+    may mark ind K.partialExpression n c q = made text words (E.PartialExpression (decoratorOf x s mark ind)) (x .name) (here .place) (place-some text (s .start) (h .place)) tt
     may mark ind (K.blockEnd k) n c q = not-root k n
 
   module _ (g : Stage) (gap : Bool) {l : Bool} {e : Element} (new : e ≡ newElement (E.RawString (gapText words marks s)) (here .place))
@@ -247,12 +247,12 @@ module _ (text : Bytes) (words : List ℕ) (o : Options) (v : View) (s : Span) (
       {cut : Bool} (c : CutIs (s .tag) alone (o .«prevent_indent») cut) {b : Back} (d : b ≡ trimOf (x .«omit_pre_ws») cut)
       {sg : Stage} (w : StageIs (s .tag) sg) {line : Bool} (f : LineIs (s .tag) alone l line)
       {mark ind : Bool} (r : mark ≡ (alone && not (x .«omit_pre_ws»))) (q : IndentIs (s .tag) (o .«prevent_indent») (x .«omit_pre_ws») ind)
-      {y : TemplateElement} (made-of : ElementIs s x mark ind y) {z : Element} (placed-as : z ≡ newElement y (here .place)) {act : Act} (t : ActIs (s .tag) z act) where
+      {y : TemplateElement} (made-of : ElementIs s x mark ind y) {z : Element} (placed-as : z ≡ namedElement y (x .name) (here .place)) {act : Act} (t : ActIs (s .tag) z act) where
     abbrev tagged-step : Step
     tagged-step = record { gapped = gap; gap = e; back = b; act = act; marks = marksBehind sg (s .end) (x .«omit_pro_ws») line; here = here; next = x .next }
 
-    act-as : (k : Tag) → kindOf (s .tag) ≡ tagged k → act ≡ actFor k (newElement (elementFor k s x mark ind) (here .place))
-    act-as k u = t .means k u ∙ ap (actFor k) (placed-as ∙ ap (λ w. newElement w (here .place)) (made-of .means k u))
+    act-as : (k : Tag) → kindOf (s .tag) ≡ tagged k → act ≡ actFor k (namedElement (elementFor k s x mark ind) (x .name) (here .place))
+    act-as k u = t .means k u ∙ ap (actFor k) (placed-as ∙ ap (λ w. namedElement w (x .name) (here .place)) (made-of .means k u))
 
     step-as : (k : Tag) (st : State) → kindOf (s .tag) ≡ tagged k → Visited text v s gap here st
         → tagStep text (o .«prevent_indent») (o .«is_partial») k st s (tagMeans text words (s .end) x) ≡ applied text words tagged-step st

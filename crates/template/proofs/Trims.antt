@@ -8,6 +8,7 @@ use mathlib.Core.Option.{Option, some}
 use Rattle.support.specs.Bytes.{Bytes}
 use Rattle.support.specs.Position.{Place}
 use Rattle.support.proofs.TrimLaws.{end-twice, end-blanks-twice, blanks-then-end, end-then-blanks}
+use Rattle.expression.specs.declared.parameter.Parameter.{Parameter}
 use Rattle.listing.specs.Tree.{Item}
 use Rattle.listing.specs.Tree as T
 use Rattle.listing.specs.Reading.{Elem, item, block, wrap}
@@ -81,17 +82,17 @@ role-stays (E.DecoratorBlock d) b = refl
 role-stays (E.PartialBlock d) b = refl
 
 module _ (text : Bytes) (words : List ℕ) where
-  sound-stays : (x : TemplateElement) (b : Back) → Sound text words x → Sound text words (trimmed x b)
-  sound-stays E.Empty b s = s
-  sound-stays (E.RawString r) b s = record { order = s .order; inside = s .inside; starts = s .starts; ends = s .ends; escapes = s .escapes }
-  sound-stays (E.Comment c) b s = s
-  sound-stays (E.Expression h) b s = s
-  sound-stays (E.HtmlExpression h) b s = s
-  sound-stays (E.HelperBlock h) b s = s
-  sound-stays (E.DecoratorExpression d) b s = s
-  sound-stays (E.PartialExpression d) b s = s
-  sound-stays (E.DecoratorBlock d) b s = s
-  sound-stays (E.PartialBlock d) b s = s
+  sound-stays : (n : Parameter) (x : TemplateElement) (b : Back) → Sound text words n x → Sound text words n (trimmed x b)
+  sound-stays n E.Empty b s = s
+  sound-stays n (E.RawString r) b s = record { order = s .order; inside = s .inside; starts = s .starts; ends = s .ends; escapes = s .escapes }
+  sound-stays n (E.Comment c) b s = s
+  sound-stays n (E.Expression h) b s = s
+  sound-stays n (E.HtmlExpression h) b s = s
+  sound-stays n (E.HelperBlock h) b s = s
+  sound-stays n (E.DecoratorExpression d) b s = s
+  sound-stays n (E.PartialExpression d) b s = s
+  sound-stays n (E.DecoratorBlock d) b s = s
+  sound-stays n (E.PartialBlock d) b s = s
 
   item-trimmed : (x : TemplateElement) (b : Back) → roleOf x ≡ leaf → itemMeans text words (trimmed x b) ≡ trimItem (backTrim b) (itemMeans text words x)
   unfolding itemMeans trimItem rawMeans
@@ -109,7 +110,7 @@ module _ (text : Bytes) (words : List ℕ) where
   leaf-trimmed : (p : Option Place) (x : Item) (e : Element) (b : Back) → Leaf text words p x e → Leaf text words p (trimItem (backTrim b) x) (trimEndOf e b)
   leaf-trimmed p x e b c =
       record {
-        is = record { role = role-stays (e .element) b ∙ c .is .role; place = c .is .place; sound = sound-stays (e .element) b (c .is .sound) };
+        is = record { role = role-stays (e .element) b ∙ c .is .role; place = c .is .place; sound = sound-stays (e .name) (e .element) b (c .is .sound) };
         means = item-trimmed (e .element) b (c .is .role) ∙ ap (trimItem (backTrim b)) (c .means);
       }
 

@@ -23,7 +23,7 @@ use Rattle.template.specs.Nests.{isFilling, plainNests, nests}
 use Rattle.template.specs.Escapes.{textStart, ownEscapes, badEscapes, faultyEscape, unescaped}
 use Rattle.template.specs.Step.{trimFront, afterGap, takeGap, processStandalone, standalone, rawString, addItem, addComment, plainStep}
 use Rattle.template.specs.Walk.{walkPlain, walkKind}
-use Rattle.template.specs.Element.{rawMeans, itemMeans, leaf, roleOf, Sound, newElement, emptyElement}
+use Rattle.template.specs.Element.{rawMeans, itemMeans, leaf, roleOf, Sound, noName, newElement, emptyElement}
 use Rattle.template.specs.Visit.{stageMeans, withMarks, MarksAre, HereIs, leafMeans, gapEffect, applied, Made, GapMade}
 use Rattle.template.specs.Visiting.{Visited, KindIs, gapText, textElement, textStep, rawFront, trimOf}
 use Rattle.template.specs.declared.element.Back.{Back}
@@ -219,16 +219,17 @@ module _ (text : Bytes) (words : List ℕ) (o : Options) (v : View) (s : Span) (
 
       comment-is : (k : Plain) (t : Bytes) → kindOf (s .tag) ≡ plain k → ((st : State) → plainNests k gap st ≡ isFilling (st .stage)) → ((st : State) → faultyEscape text words k st s ≡ false)
           → ((st : State) → plainStep text words (o .«is_partial») k st s ≡ withEndPos (s .end) (addComment text (o .«is_partial») t st s))
-          → itemMeans text words (y .element) ≡ T.comment t → y ≡ newElement (y .element) (here .place) → roleOf (y .element) ≡ leaf → Sound text words (y .element)
+          → itemMeans text words (y .element) ≡ T.comment t → y ≡ newElement (y .element) (here .place) → roleOf (y .element) ≡ leaf → Sound text words (y .name) (y .element)
           → KindIs text words o v s gap here (Vis.Step commentStep)
       unfolding withMarks
       comment-is k t e i f p q n r u = record {
         means = λ st h.
             let w : y .place ≡ here .place = ap (λ z. z .place) n in
+            let a : y .name ≡ noName = ap (λ z. z .name) n in
             record {
               makes = plain-makes k e st (f st) (p st ∙ comment-as t h (cc (h .place, q, w)));
               gap = made-gap h;
-              act = record { new = n ∙ cc (w); is = record { role = r; place = place-some text (s .start) (cc (w, h .place)); sound = u } };
+              act = record { new = n ∙ cc (w, a); is = record { role = r; place = place-some text (s .start) (cc (w, h .place)); sound = u } };
               gapless = λ a b. none-waits a (sym (i st) ∙ subst (λ c. nests c gap st ≡ true) e (h .nested));
               here = placed h;
               previous = refl;
@@ -252,12 +253,12 @@ module _ (text : Bytes) (words : List ℕ) (o : Options) (v : View) (s : Span) (
 
           go : (b : Bool) → eqb (s .tag) 19 ≡ b → KindIs text words o v s gap here (Vis.Step commentStep)
           go true e = comment-is K.commentCompact (commentCompactText (own text s)) (ap kindOf (eqb-true (s .tag) 19 e)) (λ st. refl) (λ st. refl) (λ st. refl)
-              (rw (element, c, e)) as-new (ap roleOf element) (subst (λ z. Sound text words z) (sym element) tt)
+              (rw (element, c, e)) as-new (ap roleOf element) (subst (λ z. Sound text words (y .name) z) (sym element) tt)
           go false e =
               let n = eqb-false (s .tag) 19 e in
               let t : s .tag ≡ 20 = omega arith in
               comment-is K.comment (commentText (own text s)) (ap kindOf t) (λ st. refl) (λ st. refl) (λ st. refl)
-              (rw (element, c, e)) as-new (ap roleOf element) (subst (λ z. Sound text words z) (sym element) tt)
+              (rw (element, c, e)) as-new (ap roleOf element) (subst (λ z. Sound text words (y .name) z) (sym element) tt)
 
   -- ---- texts
 
@@ -279,7 +280,7 @@ module _ (text : Bytes) (words : List ℕ) (o : Options) (v : View) (s : Span) (
 
     text-made : {st : State} {gap : Bool} → Visited text v s gap here st → start ≤ s .end → isCharBoundary text start ≡ true
         → badEscapes text start (ownEscapes words s) ≡ false → Made text words leaf y
-    text-made h a b c = made text words (E.RawString raw) (here .place) (place-some text (s .start) (h .place))
+    text-made h a b c = made text words (E.RawString raw) noName (here .place) (place-some text (s .start) (h .place))
         (record { order = a; inside = h .fits .inside; starts = b; ends = h .fits .ends; escapes = c })
 
     pub text-step : {gap : Bool} → s .tag ≡ 2 → start ≡ m .«end_pos» → badEscapes text start (ownEscapes words s) ≡ false

@@ -38,7 +38,7 @@ viewOf m x name count h = record { marks = m; opened = x .opened; inverted = x .
 
 module _ {text : Bytes} {words : List ℕ} {o : Options} where
   module _ {n : ℕ} {st : List Element} {lv : List Frame} {x : Frame} {m : Marks} {h : Here} {depth len count : ℕ} {closing : Bool} {at : ℕ} (held : Held text words o n st lv x m h depth len count closing at) {name : AsName}
-      (named : BlockNameIs (elementAt st (x .block) .element) name) {seen : Visit}
+      (named : BlockNameIs (elementAt st (x .block)) name) {seen : Visit}
       (look : LookIs text words o (viewOf m x name count h) at closing seen) where
     told : closing ≡ false → Tells text (viewOf m x name count h) (held .now)
     told q = tells text words n st lv x depth len count (held .now) m h name (rw q at (held .kept)) (held .marks) (held .here) named

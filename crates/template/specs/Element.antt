@@ -16,7 +16,10 @@ use Rattle.json_path.specs.Span.{Span, spanCount, escapesFrom}
 use Rattle.expression.specs.Expression.{Call, BlockParam, asName, nameOf}
 use Rattle.expression.specs.Readers.{maxSubexpressions}
 use Rattle.expression.specs.Answers.{callOr, paramMeans}
+use Rattle.json_path.specs.declared.path.Name as path
 use Rattle.expression.specs.declared.parameter.Subexpression.{Subexpression}
+use Rattle.expression.specs.declared.parameter.Parameter.{Parameter}
+use Rattle.expression.specs.declared.parameter.Parameter.the-variants as P
 use Rattle.listing.specs.Tree.{Item, Wrap, Head, head}
 use Rattle.listing.specs.Tree as T
 use Rattle.listing.specs.Children.{expressionAt, blockOr}
@@ -154,23 +157,37 @@ roleOf (E.PartialExpression d) = leaf
 roleOf (E.DecoratorBlock d) = wrapper
 roleOf (E.PartialBlock d) = wrapper
 
+-- a body follows
+abbrev pub hasBody : Role → Bool
+hasBody leaf = false
+hasBody helper = true
+hasBody wrapper = true
+hasBody nothing = false
+
 module _ (text : Bytes) (words : List ℕ) where
   -- a text is as the walk makes it; the name that a block holds is its expression's
-  abbrev pub Sound : TemplateElement → Type 0
-  Sound E.Empty = Unit {0}
-  Sound (E.RawString r) = RawGood text words r
-  Sound (E.Comment c) = Unit {0}
-  Sound (E.Expression h) = Unit {0}
-  Sound (E.HtmlExpression h) = Unit {0}
-  Sound (E.HelperBlock h) = asName (paramMeans text words (h .name)) ≡ nameOf (callAt text words (h .from) (h .limit))
-  Sound (E.DecoratorExpression d) = Unit {0}
-  Sound (E.PartialExpression d) = Unit {0}
-  Sound (E.DecoratorBlock d) = asName (paramMeans text words (d .name)) ≡ nameOf (callAt text words (d .from) (d .limit))
-  Sound (E.PartialBlock d) = asName (paramMeans text words (d .name)) ≡ nameOf (callAt text words (d .from) (d .limit))
+  abbrev pub Sound : Parameter → TemplateElement → Type 0
+  Sound n E.Empty = Unit {0}
+  Sound n (E.RawString r) = RawGood text words r
+  Sound n (E.Comment c) = Unit {0}
+  Sound n (E.Expression h) = Unit {0}
+  Sound n (E.HtmlExpression h) = Unit {0}
+  Sound n (E.HelperBlock h) = asName (paramMeans text words n) ≡ nameOf (callAt text words (h .from) (h .limit))
+  Sound n (E.DecoratorExpression d) = Unit {0}
+  Sound n (E.PartialExpression d) = Unit {0}
+  Sound n (E.DecoratorBlock d) = asName (paramMeans text words n) ≡ nameOf (callAt text words (d .from) (d .limit))
+  Sound n (E.PartialBlock d) = asName (paramMeans text words n) ≡ nameOf (callAt text words (d .from) (d .limit))
 
 -- an element that was just made: no links
+abbrev pub namedElement : TemplateElement → Parameter → code.Place → Element
+namedElement x n p = record { element = x; name = n; place = p; next = 0; template = 0; inverse = 0; inverted = false; chain = false }
+
+-- a text and a comment have no name
+abbrev pub noName : Parameter
+noName = P.Name (record { start = 0; end = 0 })
+
 abbrev pub newElement : TemplateElement → code.Place → Element
-newElement x p = record { element = x; place = p; next = 0; template = 0; inverse = 0; inverted = false; chain = false }
+newElement x p = namedElement x noName p
 
 abbrev pub emptyElement : Element
 emptyElement = newElement E.Empty (record { line = 0; column = 0 })

@@ -4,10 +4,12 @@ use mathlib.Core.Path.{_≡_}
 use mathlib.Core.List.{List}
 use mathlib.Core.Bool.{Bool, true, false}
 use mathlib.Core.Option.{Option, none}
-use Rattle.support.specs.Bytes.{Bytes}
+use Rattle.support.specs.Bytes.{Bytes, if}
 use Rattle.expression.specs.Expression.{asName}
 use Rattle.expression.specs.Answers.{paramMeans, asNameMeans}
 use Rattle.expression.specs.declared.parameter.AsName.{AsName}
+use Rattle.expression.specs.declared.parameter.Parameter.{Parameter}
+use Rattle.template.specs.Element.{roleOf, hasBody}
 use Rattle.template.specs.declared.element.Back.{Back}
 use Rattle.template.specs.declared.element.Back.the-variants as Back
 use Rattle.template.specs.declared.element.RawString.{RawString}
@@ -18,27 +20,27 @@ use Rattle.template.specs.declared.element.Element.{Element}
 -- an else-if node: it has no place, and links to the node before it
 abbrev pub inverseNode : Element → ℕ → Element
 inverseNode e before =
-    record { element = e .element; place = record { line = 0; column = 0 }; next = 0; template = 0; inverse = before; inverted = false; chain = true }
+    record { element = e .element; name = e .name; place = record { line = 0; column = 0 }; next = 0; template = 0; inverse = before; inverted = false; chain = true }
 
 -- with `at` after it
 abbrev pub followedBy : Element → ℕ → Element
 followedBy e at =
-    record { element = e .element; place = e .place; next = at; template = e .template; inverse = e .inverse; inverted = e .inverted; chain = e .chain }
+    record { element = e .element; name = e .name; place = e .place; next = at; template = e .template; inverse = e .inverse; inverted = e .inverted; chain = e .chain }
 
 -- with the body that begins at `at`
 abbrev pub setTemplate : Element → ℕ → Element
 setTemplate e at =
-    record { element = e .element; place = e .place; next = e .next; template = at; inverse = e .inverse; inverted = e .inverted; chain = e .chain }
+    record { element = e .element; name = e .name; place = e .place; next = e .next; template = at; inverse = e .inverse; inverted = e .inverted; chain = e .chain }
 
 -- with the else that begins at `at`, if there is one
 abbrev pub setInverse : Element → ℕ → Bool → Bool → Element
 setInverse e at i c =
-    record { element = e .element; place = e .place; next = e .next; template = e .template; inverse = at; inverted = i; chain = c }
+    record { element = e .element; name = e .name; place = e .place; next = e .next; template = e .template; inverse = at; inverted = i; chain = c }
 
 -- with this in it
 abbrev pub setElement : Element → TemplateElement → Element
 setElement e x =
-    record { element = x; place = e .place; next = e .next; template = e .template; inverse = e .inverse; inverted = e .inverted; chain = e .chain }
+    record { element = x; name = e .name; place = e .place; next = e .next; template = e .template; inverse = e .inverse; inverted = e .inverted; chain = e .chain }
 
 -- one trim of an end after another
 abbrev pub moreOf : Back → Back → Back
@@ -68,18 +70,12 @@ abbrev pub trimEndOf : Element → Back → Element
 trimEndOf e b = setElement e (trimmed (e .element) b)
 
 -- the name of a block's opening tag
-abbrev pub blockName : Bytes → List ℕ → TemplateElement → Option Bytes
-blockName text words E.Empty = none
-blockName text words (E.RawString r) = none
-blockName text words (E.Comment c) = none
-blockName text words (E.Expression h) = none
-blockName text words (E.HtmlExpression h) = none
-blockName text words (E.HelperBlock h) = asName (paramMeans text words (h .name))
-blockName text words (E.DecoratorExpression d) = none
-blockName text words (E.PartialExpression d) = none
-blockName text words (E.DecoratorBlock d) = asName (paramMeans text words (d .name))
-blockName text words (E.PartialBlock d) = asName (paramMeans text words (d .name))
+abbrev pub nameFor : Bytes → List ℕ → Parameter → TemplateElement → Option Bytes
+nameFor text words n x = if (hasBody (roleOf x)) (asName (paramMeans text words n)) none
+
+abbrev pub blockName : Bytes → List ℕ → Element → Option Bytes
+blockName text words e = nameFor text words (e .name) (e .element)
 
 -- r is that name
-pub record BlockNameIs (e : TemplateElement) (r : AsName) : Type 0 where
+pub record BlockNameIs (e : Element) (r : AsName) : Type 0 where
   pub means : (text : Bytes) (words : List ℕ) → asNameMeans text r ≡ blockName text words e

@@ -42,13 +42,6 @@ module _ (text : Bytes) (words : List ℕ) where
   abbrev pub opening : Element → Bytes
   opening e = openingBy (roleOf (e .element)) (placeMeans (e .place)) (e .chain) (e .element)
 
--- a body follows
-abbrev pub hasBody : Role → Bool
-hasBody leaf = false
-hasBody helper = true
-hasBody wrapper = true
-hasBody nothing = false
-
 -- a block that waits while its body, or its else, is listed
 abbrev pub waits : ℕ → Bool → Waiting
 waits block inverse = record { block = block; inverse = inverse }

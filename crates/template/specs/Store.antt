@@ -20,7 +20,7 @@ module _ (text : Bytes) (words : List ℕ) where
   pub record Is (r : Role) (p : Option Place) (e : Element) : Type 0 where
     pub role : roleOf (e .element) ≡ r
     pub place : placeMeans (e .place) ≡ p
-    pub sound : Sound text words (e .element)
+    pub sound : Sound text words (e .name) (e .element)
 
   -- a leaf, a helper block, another block with what it denotes
   pub record Leaf (p : Option Place) (x : Item) (e : Element) : Type 0 where

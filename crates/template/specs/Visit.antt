@@ -18,7 +18,7 @@ use Rattle.template.specs.Result.{refused}
 use Rattle.template.specs.Nests.{takesElse}
 use Rattle.template.specs.Walk.{walk}
 use Rattle.template.specs.Refusal.{maxOpen}
-use Rattle.template.specs.Element.{backTrim, itemMeans, headMeans, wrapMeans, Role, leaf, helper, wrapper, newElement}
+use Rattle.template.specs.Element.{backTrim, itemMeans, headMeans, wrapMeans, Role, leaf, helper, wrapper, namedElement}
 use Rattle.template.specs.Store.{Is}
 use Rattle.template.specs.declared.element.Back.{Back}
 use Rattle.template.specs.declared.element.Element.{Element}
@@ -138,7 +138,7 @@ module _ (text : Bytes) (words : List ℕ) where
 
   -- an element that was just made, with a place
   pub record Made (r : Role) (e : Element) : Type 0 where
-    pub new : e ≡ newElement (e .element) (e .place)
+    pub new : e ≡ namedElement (e .element) (e .name) (e .place)
     pub is : Is text words r (some (placeOf (e .place))) e
 
   -- the role of the block that a kind of body belongs to

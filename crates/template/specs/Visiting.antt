@@ -182,10 +182,10 @@ stageBehind (K.blockEnd k) = S.filling
 
 -- the link to the expression of a tag that has read x
 abbrev pub helperOf : TagExpression → Span → Bool → HelperTemplate
-helperOf x s mark = record { name = x .name; from = x .from; limit = s .end; «indent_before_write» = mark }
+helperOf x s mark = record { from = x .from; limit = s .end; «indent_before_write» = mark }
 
 abbrev pub decoratorOf : TagExpression → Span → Bool → Bool → DecoratorTemplate
-decoratorOf x s mark indent = record { name = x .name; from = x .from; limit = s .end; «indent_before_write» = mark; indent = indent; start = s .start }
+decoratorOf x s mark indent = record { from = x .from; limit = s .end; «indent_before_write» = mark; indent = indent; start = s .start }
 
 -- the element that a tag makes that has read x
 abbrev pub elementFor : Tag → Span → TagExpression → Bool → Bool → TemplateElement

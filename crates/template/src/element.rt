@@ -1,9 +1,10 @@
 // What the store holds: elements, as in the crate, with links as numbers. Link 0 is none.
 use expression::parameter::AsName;
 use expression::parameter::Parameter;
+use json_path::path::Name;
 use support::position::Place;
 ghost use mathlib.Core.Path.{_≡_};
-ghost use Rattle.template.specs.Element.{newElement};
+ghost use Rattle.template.specs.Element.{newElement, namedElement, roleOf, hasBody};
 ghost use Rattle.template.specs.Links.{inverseNode, followedBy, setTemplate, setInverse, trimEndOf, moreOf, BlockNameIs};
 
 // How the front of a text is trimmed: not at all; blanks, then the first newline; White_Space.
@@ -39,7 +40,6 @@ pub struct Comment {
 
 // An expression by its link: it is read from span number `from` on, up to the limit.
 pub struct HelperTemplate {
-    pub name: Parameter,
     pub from: usize,
     pub limit: usize,
     pub indent_before_write: bool,
@@ -47,7 +47,6 @@ pub struct HelperTemplate {
 
 // The same; and whether it keeps the blanks before `start` as indent.
 pub struct DecoratorTemplate {
-    pub name: Parameter,
     pub from: usize,
     pub limit: usize,
     pub indent_before_write: bool,
@@ -68,11 +67,12 @@ pub enum TemplateElement {
     PartialBlock(DecoratorTemplate),
 }
 
-// An element with its place (line 0: none) and its links: to the element after it in its body, to the
-// first of its own body, and to the first of its else, if it has one (`inverted`). While its block is
-// open, `inverse` of an else-if node is the node before it.
+// An element with its name, which only a tag has, its place (line 0: none) and its links: to the element
+// after it in its body, to the first of its own body, and to the first of its else, if it has one
+// (`inverted`). While its block is open, `inverse` of an else-if node is the node before it.
 pub struct Element {
     pub element: TemplateElement,
+    pub name: Parameter,
     pub place: Place,
     pub next: usize,
     pub template: usize,
@@ -88,8 +88,12 @@ impl Element {
     // How many the smaller store has, for at most 320 spans.
     pub const SMALL: usize = 641;
 
+    // Of texts and comments, which have none.
+    pub const NO_NAME: Parameter = Parameter::Name(Name { start: 0, end: 0 });
+
     pub const EMPTY: Element = Element {
         element: TemplateElement::Empty,
+        name: Element::NO_NAME,
         place: Place { line: 0, column: 0 },
         next: 0,
         template: 0,
@@ -98,11 +102,20 @@ impl Element {
         chain: false,
     };
 
+    // A text or a comment.
     pub(crate) fn new(element: TemplateElement, place: Place) -> Element
         ensures { λ r. ⌜ r ≡ newElement element place ⌝ }
     {
+        Element::named(element, Element::NO_NAME, place)
+    }
+
+    // What a tag makes.
+    pub(crate) fn named(element: TemplateElement, name: Parameter, place: Place) -> Element
+        ensures { λ r. ⌜ r ≡ namedElement element name place ⌝ }
+    {
         Element {
             element: element,
+            name: name,
             place: place,
             next: 0,
             template: 0,
@@ -117,8 +130,10 @@ impl Element {
         ensures { λ r. ⌜ r ≡ inverseNode self before ⌝ }
     {
         let e = self.element;
+        let n = self.name;
         Element {
             element: e,
+            name: n,
             place: Place { line: 0, column: 0 },
             next: 0,
             template: 0,
@@ -133,9 +148,11 @@ impl Element {
         ensures { λ r. ⌜ r ≡ followedBy self at ⌝ }
     {
         let e = self.element;
+        let n = self.name;
         let p = self.place;
         Element {
             element: e,
+            name: n,
             place: p,
             next: at,
             template: self.template,
@@ -150,9 +167,11 @@ impl Element {
         ensures { λ r. ⌜ r ≡ setTemplate self at ⌝ }
     {
         let e = self.element;
+        let n = self.name;
         let p = self.place;
         Element {
             element: e,
+            name: n,
             place: p,
             next: self.next,
             template: at,
@@ -167,9 +186,11 @@ impl Element {
         ensures { λ r. ⌜ r ≡ setInverse self at inverted chain ⌝ }
     {
         let e = self.element;
+        let n = self.name;
         let p = self.place;
         Element {
             element: e,
+            name: n,
             place: p,
             next: self.next,
             template: self.template,
@@ -184,6 +205,7 @@ impl Element {
         ensures { λ r. ⌜ r ≡ trimEndOf self back ⌝ }
     {
         let e = self.element;
+        let n = self.name;
         let p = self.place;
         if let TemplateElement::RawString(r) = e {
             let f = r.front;
@@ -197,6 +219,7 @@ impl Element {
                     front: f,
                     back: joined,
                 }),
+                name: n,
                 place: p,
                 next: self.next,
                 template: self.template,
@@ -208,26 +231,33 @@ impl Element {
         self
     }
 
-    // The name of a block's opening tag.
-    pub(crate) fn name(self) -> AsName
-        ensures { λ r. ⌜ BlockNameIs (self .element) r ⌝ }
+    pub(crate) fn has_body(self) -> bool
+        ensures { λ r. ⌜ r ≡ hasBody (roleOf (self .element)) ⌝ }
     {
         let e = self.element;
         match e {
-            TemplateElement::HelperBlock(h) => {
-                let n = h.name;
-                n.as_name()
-            }
-            TemplateElement::DecoratorBlock(d) => {
-                let n = d.name;
-                n.as_name()
-            }
-            TemplateElement::PartialBlock(d) => {
-                let n = d.name;
-                n.as_name()
-            }
-            _ => AsName::None,
+            TemplateElement::Empty => false,
+            TemplateElement::RawString(_) => false,
+            TemplateElement::Comment(_) => false,
+            TemplateElement::Expression(_) => false,
+            TemplateElement::HtmlExpression(_) => false,
+            TemplateElement::HelperBlock(_) => true,
+            TemplateElement::DecoratorExpression(_) => false,
+            TemplateElement::PartialExpression(_) => false,
+            TemplateElement::DecoratorBlock(_) => true,
+            TemplateElement::PartialBlock(_) => true,
         }
+    }
+
+    // The name of a block's opening tag.
+    pub(crate) fn name(self) -> AsName
+        ensures { λ r. ⌜ BlockNameIs self r ⌝ }
+    {
+        if self.has_body() {
+            let n = self.name;
+            return n.as_name();
+        }
+        AsName::None
     }
 }
 

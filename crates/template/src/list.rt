@@ -33,9 +33,9 @@ ghost use Rattle.listing.specs.Children.{helperChildren};
 ghost use Rattle.listing.specs.Written.{Written};
 ghost use Rattle.template.specs.Compile.{fit};
 ghost use Rattle.template.specs.Answers.{AnswerIs};
-ghost use Rattle.template.specs.Element.{placeMeans, linkOf, rawMeans, commentMeans, indentMeans, headAt, roleOf, Good, RawGood, Sound};
+ghost use Rattle.template.specs.Element.{placeMeans, linkOf, rawMeans, commentMeans, indentMeans, headAt, Good, RawGood, Sound};
 ghost use Rattle.template.specs.Store.{Holds, Stored};
-ghost use Rattle.template.specs.Opening.{blockOpening, decoratedBytes, opening, hasBody, waits, bodyEnd, deeper, linkInside, linkBehind};
+ghost use Rattle.template.specs.Opening.{blockOpening, decoratedBytes, opening, waits, bodyEnd, deeper, linkInside, linkBehind};
 
 // A block of which the body, or the else, is being listed.
 pub struct Waiting {
@@ -215,7 +215,7 @@ pub(crate) fn write_element(
     words: &[u32],
     e: Element,
 ) -> usize
-    requires { ⌜ Good (now text) (now words) × Sound (now text) (now words) (e .element) ⌝ }
+    requires { ⌜ Good (now text) (now words) × Sound (now text) (now words) (e .name) (e .element) ⌝ }
     ensures { λ r. ⌜ Written (opening (now (text .entry)) (now (words .entry)) e) (now (out .entry)) at (now (out .exit)) r ⌝ }
 {
     let x = e.element;
@@ -243,24 +243,6 @@ pub(crate) fn write_element(
         TemplateElement::PartialBlock(d) => {
             write_decorated(out, at, text, words, b"[partial-block ", p, d, b"[body\n")
         }
-    }
-}
-
-pub(crate) fn has_body(e: Element) -> bool
-    ensures { λ r. ⌜ r ≡ hasBody (roleOf (e .element)) ⌝ }
-{
-    let x = e.element;
-    match x {
-        TemplateElement::Empty => false,
-        TemplateElement::RawString(_) => false,
-        TemplateElement::Comment(_) => false,
-        TemplateElement::Expression(_) => false,
-        TemplateElement::HtmlExpression(_) => false,
-        TemplateElement::HelperBlock(_) => true,
-        TemplateElement::DecoratorExpression(_) => false,
-        TemplateElement::PartialExpression(_) => false,
-        TemplateElement::DecoratorBlock(_) => true,
-        TemplateElement::PartialBlock(_) => true,
     }
 }
 
@@ -337,7 +319,7 @@ pub(crate) fn list(
     loop {
         if at > 0 {
             let e = elements[at];
-            let more = has_body(e);
+            let more = e.has_body();
             p = write_element(out, p, text, words, e);
             waiting[depth] = Waiting::new(at, false);
             depth = deeper(depth, more);

@@ -7,7 +7,6 @@ use crate::frame::Frame;
 use crate::frame::Marks;
 use crate::list::Waiting;
 use crate::list::deeper;
-use crate::list::has_body;
 use crate::list::has_else;
 use crate::list::link_behind;
 use crate::list::link_inside;
@@ -69,7 +68,7 @@ fn list_small(
     loop {
         if at > 0 {
             let e = elements[at];
-            let more = has_body(e);
+            let more = e.has_body();
             p = write_element(out, p, text, words, e);
             waiting[depth] = Waiting::new(at, false);
             depth = deeper(depth, more);

@@ -402,9 +402,7 @@ fn comment(
 fn helper(x: TagExpression, s: Span, indent: bool) -> HelperTemplate
     ensures { λ r. ⌜ r ≡ helperOf x s indent ⌝ }
 {
-    let name = x.name;
     HelperTemplate {
-        name: name,
         from: x.from,
         limit: s.end,
         indent_before_write: indent,
@@ -414,9 +412,7 @@ fn helper(x: TagExpression, s: Span, indent: bool) -> HelperTemplate
 fn decorator(x: TagExpression, s: Span, mark: bool, indent: bool) -> DecoratorTemplate
     ensures { λ r. ⌜ r ≡ decoratorOf x s mark indent ⌝ }
 {
-    let name = x.name;
     DecoratorTemplate {
-        name: name,
         from: x.from,
         limit: s.end,
         indent_before_write: mark,
@@ -535,7 +531,8 @@ fn step_of(
     let mark = but_not(standalone, x.omit_pre_ws);
     let indent = is_indented(s.tag, o.prevent_indent, x.omit_pre_ws);
     let cut = is_cut(s.tag, standalone, o.prevent_indent);
-    let e = Element::new(element_of(s, x, mark, indent), here.place);
+    let name = x.name;
+    let e = Element::named(element_of(s, x, mark, indent), name, here.place);
     step_as(
         gap,
         gap_of(words, m, s, here.place),

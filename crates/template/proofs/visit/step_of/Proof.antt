@@ -22,8 +22,8 @@ is-cut-requires c κs = search needs
 element-of-requires : tie.Need-element-of-requires
 element-of-requires c κs = search needs
 
-new-requires : tie.Need-new-requires
-new-requires c κs = search needs
+named-requires : tie.Need-named-requires
+named-requires c κs = search needs
 
 gap-of-requires : tie.Need-gap-of-requires
 gap-of-requires c κs = search needs
@@ -56,12 +56,12 @@ returns c =
     let but-not2 = c .before .before .before .before .before .before .before .before .before .before .but-not2 in
     let is-indented = c .before .before .before .before .before .before .before .before .before .is-indented in
     let element-of = c .before .before .before .before .before .before .before .element-of in
-    let new = c .before .before .before .before .before .before .new in
+    let named = c .before .before .before .before .before .before .named in
     let act-of = c .before .before .before .act-of in
     laws.tag-step (a .text .now) (a .words .now) (a .o) (a .v) (a .s) (a .here) (a .x) (laws.gapStage (a .gap) (a .v .marks .stage)) (a .gap)
     (gap-of .ensures) (laws.gap-stage (a .gap) (a .v .marks .stage)) (but-not .ensures) (process-standalone-statement .ensures) (is-cut .ensures)
     (trim-of .ensures) (c .before .before .stage-of .ensures) (c .before .line-mark .ensures) (but-not2 .ensures) (is-indented .ensures)
-    (element-of .ensures) (new .ensures) (act-of .ensures) (c .step-as .ensures)
+    (element-of .ensures) (named .ensures) (act-of .ensures) (c .step-as .ensures)
 
 pub step-of-spec : {M : Type 1} → statement M
 step-of-spec =
@@ -73,7 +73,7 @@ step-of-spec =
     is-indented-requires
     is-cut-requires
     element-of-requires
-    new-requires
+    named-requires
     gap-of-requires
     trim-of-requires
     act-of-requires
