@@ -30,6 +30,7 @@ use Rattle.template.specs.declared.visit.Here.{Here}
 use Rattle.template.specs.declared.visit.View.{View}
 use Rattle.template.specs.declared.visit.Act.{Act}
 use Rattle.template.specs.declared.visit.Act.the-variants as A
+use Rattle.template.specs.declared.visit.Added.the-variants as N
 use Rattle.template.specs.declared.visit.Step.{Step}
 use Rattle.template.specs.declared.visit.Visit.{Visit}
 use Rattle.template.specs.declared.visit.Visit.the-variants as Vis
@@ -88,13 +89,13 @@ module _ (text : Bytes) (words : List ℕ) where
 
   allowed : (a : Act) (s s′ : State) → owner s′ ≡ owner s → openCount s′ ≡ openCount s → Allowed text words a s → Allowed text words a s′
   allowed A.Skip s s′ o c h = h
-  allowed (A.Add e) s s′ o c h = h
-  allowed (A.Begin e O.Root) s s′ o c h = h
-  allowed (A.Begin e O.Helper) s s′ o c h = (h .0, rw c (h .1))
-  allowed (A.Begin e O.Raw) s s′ o c h = (h .0, rw c (h .1))
-  allowed (A.Begin e O.Decorator) s s′ o c h = (h .0, h .1, rw c (h .2))
-  allowed (A.Begin e O.Partial) s s′ o c h = (h .0, h .1, rw c (h .2))
-  allowed (A.Chain e) s s′ o c h = (h .0, ap takesElse o ∙ h .1, rw c (h .2))
+  allowed (A.Add e N.Leaf) s s′ o c h = h
+  allowed (A.Add e (N.Block O.Root)) s s′ o c h = h
+  allowed (A.Add e (N.Block O.Helper)) s s′ o c h = (h .0, rw c (h .1))
+  allowed (A.Add e (N.Block O.Raw)) s s′ o c h = (h .0, rw c (h .1))
+  allowed (A.Add e (N.Block O.Decorator)) s s′ o c h = (h .0, h .1, rw c (h .2))
+  allowed (A.Add e (N.Block O.Partial)) s s′ o c h = (h .0, h .1, rw c (h .2))
+  allowed (A.Add e N.ElseIf) s s′ o c h = (h .0, ap takesElse o ∙ h .1, rw c (h .2))
   allowed A.Else s s′ o c h = ap takesElse o ∙ h
   allowed A.Close s s′ o c h = λ q. h (sym o ∙ q)
 

@@ -27,6 +27,7 @@ use Rattle.template.specs.declared.frame.Stage.the-variants as G
 use Rattle.template.specs.declared.tag.TagExpression.{TagExpression}
 use Rattle.template.specs.declared.visit.Act.{Act}
 use Rattle.template.specs.declared.visit.Act.the-variants as A
+use Rattle.template.specs.declared.visit.Added.the-variants as N
 use Rattle.template.proofs.TagKinds.{either, or-later, kind-low, kind-leaf, kind-end, kind-late, kind-upto, kind-behind, Holds, tag-holds, holds-at}
 
 -- ---- the stage behind a gap
@@ -242,24 +243,24 @@ module _ (t : ℕ) where
     act-is : (r : Act) → Holds (Acts r) (kindOf t) → ActIs t e r
     act-is r h = record { means = tag-holds (Acts r) t h }
 
-    pub act-begin : {o : Opened} → 5 ≤ t → t ≤ 8 → BeginIs t o → ActIs t e (A.Begin e o)
+    pub act-begin : {o : Opened} → 5 ≤ t → t ≤ 8 → BeginIs t o → ActIs t e (A.Add e (N.Block o))
     unfolding kinds
-    act-begin {o} l u b = act-is (A.Begin e o) (either P t 5 l (λ c. ap (A.Begin e) (c .means K.helperBlock refl)) (λ l. either P t 6 l (λ c. ap (A.Begin e) (c .means K.rawBlock refl))
-        (λ l. either P t 7 l (λ c. ap (A.Begin e) (c .means K.decoratorBlock refl)) (λ l. either P t 8 l (λ c. ap (A.Begin e) (c .means K.partialBlock refl)) (λ l. absurd (omega arith))))) b)
+    act-begin {o} l u b = act-is (A.Add e (N.Block o)) (either P t 5 l (λ c. ap (λ o. A.Add e (N.Block o)) (c .means K.helperBlock refl)) (λ l. either P t 6 l (λ c. ap (λ o. A.Add e (N.Block o)) (c .means K.rawBlock refl))
+        (λ l. either P t 7 l (λ c. ap (λ o. A.Add e (N.Block o)) (c .means K.decoratorBlock refl)) (λ l. either P t 8 l (λ c. ap (λ o. A.Add e (N.Block o)) (c .means K.partialBlock refl)) (λ l. absurd (omega arith))))) b)
       where
         P : ℕ → Type 0
-        P n = BeginIs n o → Holds (Acts (A.Begin e o)) (kindOf n)
+        P n = BeginIs n o → Holds (Acts (A.Add e (N.Block o))) (kindOf n)
 
     pub act-9 : t ≡ 9 → ActIs t e A.Else
     unfolding kinds
     act-9 f = act-is A.Else (holds-at (Acts A.Else) t 9 K.invertTag refl f refl)
 
-    pub act-10 : t ≡ 10 → ActIs t e (A.Chain e)
+    pub act-10 : t ≡ 10 → ActIs t e (A.Add e N.ElseIf)
     unfolding kinds
-    act-10 f = act-is (A.Chain e) (holds-at (Acts (A.Chain e)) t 10 K.invertChainTag refl f refl)
+    act-10 f = act-is (A.Add e N.ElseIf) (holds-at (Acts (A.Add e N.ElseIf)) t 10 K.invertChainTag refl f refl)
 
-    pub act-add : 11 ≤ t → t ≤ 14 → ActIs t e (A.Add e)
-    act-add l u = act-is (A.Add e) (kind-leaf (Holds (Acts (A.Add e))) t l u refl refl refl refl)
+    pub act-add : 11 ≤ t → t ≤ 14 → ActIs t e (A.Add e N.Leaf)
+    act-add l u = act-is (A.Add e N.Leaf) (kind-leaf (Holds (Acts (A.Add e N.Leaf))) t l u refl refl refl refl)
 
     pub act-end : 15 ≤ t → t ≤ 18 → ActIs t e A.Close
     act-end l u = act-is A.Close (kind-end (Holds (Acts A.Close)) t l u (λ k. refl))

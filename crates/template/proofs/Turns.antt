@@ -16,7 +16,7 @@ use Rattle.template.specs.Element.{headMeans, emptyElement}
 use Rattle.template.specs.Element as role
 use Rattle.template.specs.Store.{elementAt}
 use Rattle.template.specs.Visit.{OpenedIs, leafMeans, ownerMeans, actEffect, Allowed, Made}
-use Rattle.template.specs.Turn.{emptyFrame, begun, refChainHead, shutPlan, templatePlan, actPlan, planOf, turnOf}
+use Rattle.template.specs.Turn.{emptyFrame, begun, refChainHead, shutPlan, templatePlan, addPlan, actPlan, planOf, turnOf}
 use Rattle.template.specs.declared.element.TemplateElement.the-variants as E
 use Rattle.template.specs.declared.element.Element.{Element}
 use Rattle.template.specs.declared.frame.Frame.{Frame}
@@ -24,6 +24,7 @@ use Rattle.template.specs.declared.frame.Opened.{Opened}
 use Rattle.template.specs.declared.frame.Opened.the-variants as O
 use Rattle.template.specs.declared.visit.Act.{Act}
 use Rattle.template.specs.declared.visit.Act.the-variants as A
+use Rattle.template.specs.declared.visit.Added.the-variants as N
 use Rattle.template.specs.declared.turn.Turn.{Turn}
 use Rattle.template.specs.declared.turn.Turn.the-variants as Turn
 use Rattle.template.specs.declared.turn.Plan.{Plan}
@@ -143,7 +144,7 @@ module _ (text : Bytes) (words : List ℕ) where
     -- ---- by the act
 
     plan-skip : (l : Level) (ls : List Level) → Kept n st lv x depth len count false l ls → Goal false (Turn.Act A.Skip) l ls
-    unfolding planOf actPlan
+    unfolding planOf actPlan addPlan
     plan-skip l ls k =
         let v = low false l ls k in
         let r = roomy false l ls k in
@@ -155,8 +156,8 @@ module _ (text : Bytes) (words : List ℕ) where
           counted = (omega arith, omega arith);
         }
 
-    plan-add : (l : Level) (ls : List Level) (e : Element) → Made text words role.leaf e → Kept n st lv x depth len count false l ls → Goal false (Turn.Act (A.Add e)) (addTo (leafMeans text words e) l) ls
-    unfolding planOf actPlan
+    plan-add : (l : Level) (ls : List Level) (e : Element) → Made text words role.leaf e → Kept n st lv x depth len count false l ls → Goal false (Turn.Act (A.Add e N.Leaf)) (addTo (leafMeans text words e) l) ls
+    unfolding planOf actPlan addPlan
     plan-add (level o es) ls e m k =
         let l : Level = level o es in
         let v = low false l ls k in
@@ -171,8 +172,8 @@ module _ (text : Bytes) (words : List ℕ) where
 
     plan-begin : (l : Level) (ls : List Level) (e : Element) (op : Opened) (o : Owner)
         → ((st′ : List Element) → elementAt st′ len ≡ e → 1 ≤ len → Lead text words st′ (begun op len) (len + 1) o) → OpenedIs op false o → openOf (level o []) ≡ 1 → Rooted o (l ∷ ls)
-        → count < 64 → Kept n st lv x depth len count false l ls → Goal false (Turn.Act (A.Begin e op)) (level o []) (l ∷ ls)
-    unfolding planOf actPlan
+        → count < 64 → Kept n st lv x depth len count false l ls → Goal false (Turn.Act (A.Add e (N.Block op))) (level o []) (l ∷ ls)
+    unfolding planOf actPlan addPlan
     plan-begin l ls e op o lead is one rooted few k =
         let v = low false l ls k in
         let d = deep-of false l ls k in
@@ -186,8 +187,8 @@ module _ (text : Bytes) (words : List ℕ) where
           counted = (omega arith, omega arith);
         }
 
-    plan-open : (s : State) (e : Element) (op : Opened) → Allowed text words (A.Begin e op) s → count ≡ openCount s → Kept n st lv x depth len count false (s .top) (s .outer)
-        → Goal false (Turn.Act (A.Begin e op)) (level (ownerMeans text words e op) []) (s .top ∷ s .outer)
+    plan-open : (s : State) (e : Element) (op : Opened) → Allowed text words (A.Add e (N.Block op)) s → count ≡ openCount s → Kept n st lv x depth len count false (s .top) (s .outer)
+        → Goal false (Turn.Act (A.Add e (N.Block op))) (level (ownerMeans text words e op) []) (s .top ∷ s .outer)
     plan-open s e O.Root a q k = absurd a
     plan-open s e O.Helper a q k =
         plan-begin (s .top) (s .outer) e O.Helper (ownerMeans text words e O.Helper)
@@ -207,8 +208,8 @@ module _ (text : Bytes) (words : List ℕ) where
         (a .1) refl tt (omega (arith, a .2, q)) k
 
     plan-chain : (l : Level) (ls : List Level) (e : Element) → Made text words role.helper e → takesElse (ownerOf l) ≡ true → count < 64 → Kept n st lv x depth len count false l ls
-        → Goal false (Turn.Act (A.Chain e)) (nextBranch (headMeans text words (e .element)) l) ls
-    unfolding planOf actPlan nextBranch
+        → Goal false (Turn.Act (A.Add e N.ElseIf)) (nextBranch (headMeans text words (e .element)) l) ls
+    unfolding planOf actPlan addPlan nextBranch
     plan-chain (level root es) ls e m a few k = absurd (never a)
     plan-chain (level (inElse p h b bs) es) ls e m a few k = absurd (never a)
     plan-chain (level (wrapper p w) es) ls e m a few k = absurd (never a)
@@ -225,7 +226,7 @@ module _ (text : Bytes) (words : List ℕ) where
         }
 
     plan-else : (l : Level) (ls : List Level) → takesElse (ownerOf l) ≡ true → Kept n st lv x depth len count false l ls → Goal false (Turn.Act A.Else) (elseBranch l) ls
-    unfolding planOf actPlan elseBranch
+    unfolding planOf actPlan addPlan elseBranch
     plan-else (level root es) ls a k = absurd (never a)
     plan-else (level (inElse p h b bs) es) ls a k = absurd (never a)
     plan-else (level (wrapper p w) es) ls a k = absurd (never a)
@@ -245,14 +246,14 @@ module _ (text : Bytes) (words : List ℕ) where
 
     -- the plan of a body's end, by what it is
     plan-shuts : (l : Level) (ls : List Level) → x .inverted ≡ true → Turned n st lv (refChainHead (x .block) (x .head)) len count false (shutPlan (openAt st lv x depth len count)) l ls → Goal false (Turn.Act A.Close) l ls
-    unfolding planOf actPlan
+    unfolding planOf actPlan addPlan
     plan-shuts l ls q g =
         subst (λ (p : Plan). Turned n st lv (refChainHead (x .block) (x .head)) len count false p l ls)
         (sym (ap (λ (b : Bool). if b (shutPlan (openAt st lv x depth len count)) (templatePlan (openAt st lv x depth len count) false true)) q)) g
 
     plan-seals : (l : Level) (ls : List Level) → x .inverted ≡ false → Turned n st lv (refChainHead (x .block) (x .head)) len count false (templatePlan (openAt st lv x depth len count) false true) l ls
         → Goal false (Turn.Act A.Close) l ls
-    unfolding planOf actPlan
+    unfolding planOf actPlan addPlan
     plan-seals l ls q g =
         subst (λ (p : Plan). Turned n st lv (refChainHead (x .block) (x .head)) len count false p l ls)
         (sym (ap (λ (b : Bool). if b (shutPlan (openAt st lv x depth len count)) (templatePlan (openAt st lv x depth len count) false true)) q)) g
@@ -334,9 +335,9 @@ module _ (text : Bytes) (words : List ℕ) where
         → Goal false (Turn.Act a) (actEffect text words a s .top) (actEffect text words a s .outer)
     unfolding openBlock sumOpen
     act-turned A.Skip s h k = plan-skip (s .top) (s .outer) k
-    act-turned (A.Add e) s h k = plan-add (s .top) (s .outer) e h k
-    act-turned (A.Begin e op) s h k = plan-open s e op h (k .fits .counted) k
-    act-turned (A.Chain e) s h k = plan-chain (s .top) (s .outer) e (h .0) (h .1) (omega (arith, h .2, k .fits .counted)) k
+    act-turned (A.Add e N.Leaf) s h k = plan-add (s .top) (s .outer) e h k
+    act-turned (A.Add e (N.Block op)) s h k = plan-open s e op h (k .fits .counted) k
+    act-turned (A.Add e N.ElseIf) s h k = plan-chain (s .top) (s .outer) e (h .0) (h .1) (omega (arith, h .2, k .fits .counted)) k
     act-turned A.Else s h k = plan-else (s .top) (s .outer) h k
     act-turned A.Close s h k = plan-close (s .stage) (s .top) (s .outer) (s .endPos) (s .omitProWs) (s .trimLineRequired) h k
 

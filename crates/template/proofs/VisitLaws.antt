@@ -38,6 +38,7 @@ use Rattle.template.specs.declared.visit.Options.{Options}
 use Rattle.template.specs.declared.visit.Here.{Here}
 use Rattle.template.specs.declared.visit.View.{View}
 use Rattle.template.specs.declared.visit.Act.the-variants as A
+use Rattle.template.specs.declared.visit.Added.the-variants as N
 use Rattle.template.specs.declared.visit.Step.{Step}
 use Rattle.template.specs.declared.visit.Visit.{Visit}
 use Rattle.template.specs.declared.visit.Visit.the-variants as Vis
@@ -54,7 +55,7 @@ pub text-step-of : (v : View) (s : Span) (here : Here) (start : ℕ) (g : Stage)
       gapped = false;
       gap = emptyElement;
       back = Back.Kept;
-      act = A.Add e;
+      act = A.Add e N.Leaf;
       marks = marksBehind g (s .end) (v .marks .«omit_pro_ws») l;
       here = here;
       next = s .number + 1;
@@ -63,7 +64,7 @@ text-step-of v s here start g l q e = q ∙ ap (λ z. Vis.Step (record {
   gapped = false;
   gap = emptyElement;
   back = Back.Kept;
-  act = A.Add z;
+  act = A.Add z N.Leaf;
   marks = marksBehind g (s .end) (v .marks .«omit_pro_ws») l;
   here = here;
   next = s .number + 1;
@@ -202,7 +203,7 @@ module _ (text : Bytes) (words : List ℕ) (o : Options) (v : View) (s : Span) (
 
     module _ {alone : Bool} (a : alone ≡ standalone text (o .«is_partial») s) (y : Element) where
       abbrev commentStep : Step
-      commentStep = record { gapped = gap; gap = x; back = trimOf false alone; act = A.Add y; marks = marksBehind g (s .end) (m .«omit_pro_ws») alone; here = here; next = s .number + 1 }
+      commentStep = record { gapped = gap; gap = x; back = trimOf false alone; act = A.Add y N.Leaf; marks = marksBehind g (s .end) (m .«omit_pro_ws») alone; here = here; next = s .number + 1 }
 
       comment-as : (t : Bytes) {st : State} → Visited text v s gap here st → leafMeans text words y ≡ item (placeAt text (s .start)) (T.comment t)
           → withEndPos (s .end) (addComment text (o .«is_partial») t st s) ≡ applied text words commentStep st
@@ -239,10 +240,10 @@ module _ (text : Bytes) (words : List ℕ) (o : Options) (v : View) (s : Span) (
 
       pub comment-step : (compact : Bool) {b : Back} → b ≡ trimOf false alone → 19 ≤ s .tag → s .tag ≤ 20 → compact ≡ eqb (s .tag) 19
           → y ≡ newElement (E.Comment (record { start = s .start; end = s .end; compact = compact })) (here .place)
-          → KindIs text words o v s gap here (Vis.Step (record { gapped = gap; gap = x; back = b; act = A.Add y; marks = marksBehind g (s .end) (m .«omit_pro_ws») alone; here = here; next = s .number + 1 }))
+          → KindIs text words o v s gap here (Vis.Step (record { gapped = gap; gap = x; back = b; act = A.Add y N.Leaf; marks = marksBehind g (s .end) (m .«omit_pro_ws») alone; here = here; next = s .number + 1 }))
       unfolding K.kinds plainNests plainStep itemMeans
       comment-step compact d lo hi c n =
-          subst (λ z. KindIs text words o v s gap here (Vis.Step (record { gapped = gap; gap = x; back = z; act = A.Add y; marks = marksBehind g (s .end) (m .«omit_pro_ws») alone; here = here; next = s .number + 1 }))) (sym d)
+          subst (λ z. KindIs text words o v s gap here (Vis.Step (record { gapped = gap; gap = x; back = z; act = A.Add y N.Leaf; marks = marksBehind g (s .end) (m .«omit_pro_ws») alone; here = here; next = s .number + 1 }))) (sym d)
           (go (eqb (s .tag) 19) refl)
         where
           element : y .element ≡ E.Comment (record { start = s .start; end = s .end; compact = compact })

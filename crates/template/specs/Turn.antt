@@ -15,6 +15,8 @@ use Rattle.template.specs.declared.frame.Opened.{Opened}
 use Rattle.template.specs.declared.frame.Opened.the-variants as O
 use Rattle.template.specs.declared.visit.Act.{Act}
 use Rattle.template.specs.declared.visit.Act.the-variants as A
+use Rattle.template.specs.declared.visit.Added.{Added}
+use Rattle.template.specs.declared.visit.Added.the-variants as N
 use Rattle.template.specs.declared.turn.ChainHead.{ChainHead}
 use Rattle.template.specs.declared.turn.ChainHead.the-variants as ChainHead
 use Rattle.template.specs.declared.visit.Options.{Options}
@@ -101,11 +103,15 @@ inversePlan o =
 abbrev pub closePlan : Open → Plan
 closePlan o = if (o .top .inverted) (shutPlan o) (templatePlan o false true)
 
+-- an element is added: it joins the body, opens a block, or is an else-if's node
+unfoldable pub addPlan : Element → Added → Open → Plan
+addPlan e N.Leaf o = plainPlan o e (o .len + 1) (o .len)
+addPlan e (N.Block op) o = beginPlan o e op
+addPlan e N.ElseIf o = chainPlan o e
+
 unfoldable pub actPlan : Act → Open → Plan
 actPlan A.Skip o = plainPlan o emptyElement (o .len) 0
-actPlan (A.Add e) o = plainPlan o e (o .len + 1) (o .len)
-actPlan (A.Begin e op) o = beginPlan o e op
-actPlan (A.Chain e) o = chainPlan o e
+actPlan (A.Add e n) o = addPlan e n o
 actPlan A.Else o = templatePlan o true false
 actPlan A.Close o = closePlan o
 

@@ -32,6 +32,7 @@ use Rattle.template.specs.declared.visit.Here.{Here}
 use Rattle.template.specs.declared.visit.View.{View}
 use Rattle.template.specs.declared.visit.Act.{Act}
 use Rattle.template.specs.declared.visit.Act.the-variants as A
+use Rattle.template.specs.declared.visit.Added.the-variants as N
 use Rattle.template.specs.declared.visit.Step.{Step}
 use Rattle.template.specs.declared.visit.Visit.{Visit}
 use Rattle.template.specs.declared.visit.Visit.the-variants as Vis
@@ -126,9 +127,9 @@ module _ (text : Bytes) (words : List ℕ) where
 
   abbrev pub actEffect : Act → State → State
   actEffect A.Skip st = st
-  actEffect (A.Add e) st = addElem (leafMeans e) st
-  actEffect (A.Begin e o) st = openBlock (ownerMeans e o) st
-  actEffect (A.Chain e) st = withTop (nextBranch (headMeans text words (e .element)) (st .top)) st
+  actEffect (A.Add e N.Leaf) st = addElem (leafMeans e) st
+  actEffect (A.Add e (N.Block o)) st = openBlock (ownerMeans e o) st
+  actEffect (A.Add e N.ElseIf) st = withTop (nextBranch (headMeans text words (e .element)) (st .top)) st
   actEffect A.Else st = withTop (elseBranch (st .top)) st
   actEffect A.Close st = closeBlock st
 
@@ -160,13 +161,13 @@ module _ (text : Bytes) (words : List ℕ) where
   -- the act can be done
   abbrev pub Allowed : Act → State → Type 0
   Allowed A.Skip st = Unit {0}
-  Allowed (A.Add e) st = Made leaf e
-  Allowed (A.Begin e O.Root) st = ⊥
-  Allowed (A.Begin e O.Helper) st = Made helper e × (openCount st < maxOpen)
-  Allowed (A.Begin e O.Raw) st = Made helper e × (openCount st < maxOpen)
-  Allowed (A.Begin e O.Decorator) st = Made wrapper e × wrapFits e O.Decorator × (openCount st < maxOpen)
-  Allowed (A.Begin e O.Partial) st = Made wrapper e × wrapFits e O.Partial × (openCount st < maxOpen)
-  Allowed (A.Chain e) st = Made helper e × (takesElse (owner st) ≡ true) × (openCount st < maxOpen)
+  Allowed (A.Add e N.Leaf) st = Made leaf e
+  Allowed (A.Add e (N.Block O.Root)) st = ⊥
+  Allowed (A.Add e (N.Block O.Helper)) st = Made helper e × (openCount st < maxOpen)
+  Allowed (A.Add e (N.Block O.Raw)) st = Made helper e × (openCount st < maxOpen)
+  Allowed (A.Add e (N.Block O.Decorator)) st = Made wrapper e × wrapFits e O.Decorator × (openCount st < maxOpen)
+  Allowed (A.Add e (N.Block O.Partial)) st = Made wrapper e × wrapFits e O.Partial × (openCount st < maxOpen)
+  Allowed (A.Add e N.ElseIf) st = Made helper e × (takesElse (owner st) ≡ true) × (openCount st < maxOpen)
   Allowed A.Else st = takesElse (owner st) ≡ true
   Allowed A.Close st = owner st ≡ S.root → ⊥
 

@@ -45,6 +45,7 @@ use Rattle.template.specs.declared.visit.Here.{Here}
 use Rattle.template.specs.declared.visit.View.{View}
 use Rattle.template.specs.declared.visit.Act.{Act}
 use Rattle.template.specs.declared.visit.Act.the-variants as A
+use Rattle.template.specs.declared.visit.Added.the-variants as N
 use Rattle.template.specs.declared.visit.Step.{Step}
 use Rattle.template.specs.declared.visit.Visit.{Visit}
 use Rattle.template.specs.declared.visit.Visit.the-variants as Vis
@@ -137,7 +138,7 @@ textStep v s here start g l = record {
   gapped = false;
   gap = emptyElement;
   back = Back.Kept;
-  act = A.Add (textElement v s start (here .place));
+  act = A.Add (textElement v s start (here .place)) N.Leaf;
   marks = record { stage = g; «end_pos» = s .end; started = true; «omit_pro_ws» = v .marks .«omit_pro_ws»; «trim_line_required» = l };
   here = here;
   next = s .number + 1;
@@ -210,13 +211,13 @@ beginOf K.partialBlock = O.Partial
 
 -- what a tag does with its element after its gap and trims
 abbrev pub actFor : Tag → Element → Act
-actFor (K.blockStart k) e = A.Begin e (beginOf k)
+actFor (K.blockStart k) e = A.Add e (N.Block (beginOf k))
 actFor K.invertTag e = A.Else
-actFor K.invertChainTag e = A.Chain e
-actFor K.expression e = A.Add e
-actFor K.htmlExpression e = A.Add e
-actFor K.decoratorExpression e = A.Add e
-actFor K.partialExpression e = A.Add e
+actFor K.invertChainTag e = A.Add e N.ElseIf
+actFor K.expression e = A.Add e N.Leaf
+actFor K.htmlExpression e = A.Add e N.Leaf
+actFor K.decoratorExpression e = A.Add e N.Leaf
+actFor K.partialExpression e = A.Add e N.Leaf
 actFor (K.blockEnd k) e = A.Close
 
 -- tag 14 keeps the blanks before it as indent, unless it is prevented or there is a left tilde

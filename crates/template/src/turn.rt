@@ -4,9 +4,10 @@ use crate::element::Element;
 use crate::frame::Frame;
 use crate::frame::Opened;
 use crate::visit::Act;
+use crate::visit::Added;
 ghost use mathlib.Core.Path.{_≡_};
 ghost use Prim.Native.Nat.{_≤_, _-_};
-ghost use Rattle.template.specs.Turn.{headOf, refChainHead, emptied, filled, plainPlan, beginPlan, chainPlan, templatePlan, shutPlan, revertPlan, inversePlan, closePlan, actPlan, planOf, turnOf, joinedOf, gappedOf};
+ghost use Rattle.template.specs.Turn.{headOf, refChainHead, emptied, filled, plainPlan, beginPlan, chainPlan, templatePlan, shutPlan, revertPlan, inversePlan, closePlan, addPlan, actPlan, planOf, turnOf, joinedOf, gappedOf};
 
 // The newest else-if node of an open block, if it has one.
 pub enum ChainHead {
@@ -286,15 +287,24 @@ fn close(o: Open) -> Plan
     set_chain_template(o, false, true)
 }
 
+fn plan_add(e: Element, added: Added, o: Open) -> Plan
+    requires { ⌜ (o .depth ≤ 64) × (o .len ≤ 8192) × (o .count ≤ 64) ⌝ }
+    ensures { λ r. ⌜ r ≡ addPlan e added o ⌝ }
+{
+    match added {
+        Added::Leaf => plain(o, e, o.len + 1, o.len),
+        Added::Block(opened) => begin(o, e, opened),
+        Added::ElseIf => chain(o, e),
+    }
+}
+
 fn plan_act(a: Act, o: Open) -> Plan
     requires { ⌜ (o .depth ≤ 64) × (o .len ≤ 8192) × (o .count ≤ 64) ⌝ }
     ensures { λ r. ⌜ r ≡ actPlan a o ⌝ }
 {
     match a {
         Act::Skip => plain(o, Element::EMPTY, o.len, 0),
-        Act::Add(e) => plain(o, e, o.len + 1, o.len),
-        Act::Begin(e, opened) => begin(o, e, opened),
-        Act::Chain(e) => chain(o, e),
+        Act::Add(e, added) => plan_add(e, added, o),
         Act::Else => set_chain_template(o, true, false),
         Act::Close => close(o),
     }

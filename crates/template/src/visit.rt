@@ -69,13 +69,19 @@ pub struct View {
     pub here: Here,
 }
 
-// What is done to the tree: nothing; an element joins the innermost body; a block opens; an else-if or
-// a plain else begins; the innermost block closes.
+// What an element is that is added: one of the innermost body; a block, which opens; an else-if's node,
+// whose branch begins.
+pub enum Added {
+    Leaf,
+    Block(Opened),
+    ElseIf,
+}
+
+// What is done to the tree: nothing; an element is added; a plain else begins; the innermost block
+// closes.
 pub enum Act {
     Skip,
-    Add(Element),
-    Begin(Element, Opened),
-    Chain(Element),
+    Add(Element, Added),
     Else,
     Close,
 }
@@ -269,7 +275,7 @@ fn text_step(v: View, s: Span, start: usize, here: Here, stage: Stage, line: boo
         false,
         Element::EMPTY,
         Back::Kept,
-        Act::Add(text_of(v, s, start, here.place)),
+        Act::Add(text_of(v, s, start, here.place), Added::Leaf),
         Marks {
             stage: stage,
             end_pos: s.end,
@@ -386,7 +392,7 @@ fn comment(
         gap,
         gap_of(words, m, s, here.place),
         trim_of(false, standalone),
-        Act::Add(e),
+        Act::Add(e, Added::Leaf),
         Marks {
             stage: stage_after_gap(g, gap),
             end_pos: s.end,
@@ -460,10 +466,10 @@ fn act_of(tag: u32, e: Element) -> Act
     ensures { λ r. ⌜ ActIs tag e r ⌝ }
 {
     match tag {
-        5..=8 => Act::Begin(e, opened_of(tag)),
+        5..=8 => Act::Add(e, Added::Block(opened_of(tag))),
         9 => Act::Else,
-        10 => Act::Chain(e),
-        11..=14 => Act::Add(e),
+        10 => Act::Add(e, Added::ElseIf),
+        11..=14 => Act::Add(e, Added::Leaf),
         _ => Act::Close,
     }
 }

@@ -14,23 +14,8 @@ plain-requires c κs = search needs
 enum-known-a : tie.Need-enum-known-a
 enum-known-a c = search needs
 
-add-plain : tie.Need-add-plain
-add-plain c = search needs
-
-plain-requires-2 : tie.Need-plain-requires-2
-plain-requires-2 c κs = search needs
-
-enum-known-a-2 : tie.Need-enum-known-a-2
-enum-known-a-2 c = search needs
-
-begin-requires : tie.Need-begin-requires
-begin-requires c κs = search needs
-
-enum-known-a-3 : tie.Need-enum-known-a-3
-enum-known-a-3 c = search needs
-
-chain-requires : tie.Need-chain-requires
-chain-requires c κs = search needs
+plan-add-requires : tie.Need-plan-add-requires
+plan-add-requires c κs = search needs
 
 enum-told-2 : tie.Need-enum-told-2
 enum-told-2 c = search needs
@@ -50,23 +35,15 @@ returns c = rw ((c .plain) .ensures, (c .before .enum-told) .given .1)
 
 returns-2 : tie.Need-returns-2
 unfolding actPlan
-returns-2 c = rw ((c .plain2) .ensures, (c .before .before .before .a) .given .1)
+returns-2 c = rw ((c .plan-add) .ensures, (c .before .before .a) .given .1)
 
 returns-3 : tie.Need-returns-3
 unfolding actPlan
-returns-3 c = rw ((c .begin) .ensures, (c .before .before .a2) .given .1)
+returns-3 c = rw ((c .set-chain-template) .ensures, (c .before .enum-told2) .given .1)
 
 returns-4 : tie.Need-returns-4
 unfolding actPlan
-returns-4 c = rw ((c .chain) .ensures, (c .before .before .a3) .given .1)
-
-returns-5 : tie.Need-returns-5
-unfolding actPlan
-returns-5 c = rw ((c .set-chain-template) .ensures, (c .before .enum-told2) .given .1)
-
-returns-6 : tie.Need-returns-6
-unfolding actPlan
-returns-6 c = rw ((c .close) .ensures, (c .before .enum-told3) .given .1)
+returns-4 c = rw ((c .close) .ensures, (c .before .enum-told3) .given .1)
 
 pub plan-act-spec : {M : Type 1} → statement M
 plan-act-spec =
@@ -75,12 +52,7 @@ plan-act-spec =
     enum-told
     plain-requires
     enum-known-a
-    add-plain
-    plain-requires-2
-    enum-known-a-2
-    begin-requires
-    enum-known-a-3
-    chain-requires
+    plan-add-requires
     enum-told-2
     set-chain-template-requires
     enum-told-3
@@ -88,6 +60,4 @@ plan-act-spec =
     returns
     returns-2
     returns-3
-    returns-4
-    returns-5
-    returns-6)
+    returns-4)
