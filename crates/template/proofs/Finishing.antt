@@ -28,11 +28,12 @@ use Rattle.template.specs.Store.{elementAt, Is, Chain, Holds}
 use Rattle.template.specs.Visit.{HereIs, leafMeans, Made}
 use Rattle.template.specs.Links.{followedBy}
 use Rattle.template.specs.Turn.{filled, joinedOf, gappedOf}
-use Rattle.template.specs.Finish.{restText, RestIs, walkAnswer}
+use Rattle.template.specs.Finish.{restText, RestIs, walkListing}
 use Rattle.listing.specs.Listing.{write, listing}
-use Rattle.template.specs.Compile.{fit}
-use Rattle.template.specs.Answers.{AnswerIs}
-use Rattle.template.specs.declared.compile.Answer.{Answer}
+use Rattle.listing.specs.Written.{largest, Written}
+use Rattle.template.specs.Result.{accepted}
+use Rattle.template.specs.Answers.{BufferedIs}
+use Rattle.template.specs.declared.compile.Answer.the-variants.{Listed}
 use Rattle.template.specs.declared.element.Front.the-variants as Front
 use Rattle.template.specs.declared.element.Back.the-variants as Back
 use Rattle.template.specs.declared.element.TemplateElement.the-variants as E
@@ -126,7 +127,7 @@ module _ (text : Bytes) (words : List ℕ) where
     pub elems : List Elem
     pub root : RootIs st x len elems
     pub here : HereIs text h (m .«end_pos»)
-    pub answer : (room : ℕ) → walkAnswer text words o room ≡ fit room (listing (bodyOf (restOf m elems)))
+    pub answer : walkListing text words o ≡ accepted (listing (bodyOf (restOf m elems)))
 
 module _ (text : Bytes) (words : List ℕ) (st : List Element) (x : Frame) (len : ℕ) (es : List Elem) (is : RootIs text words st x len es) where
   module _ (kept : Bool) (e : Element) (made : kept ≡ true → Made text words role.leaf e) (g : Gapped) (eg : g ≡ gappedOf kept e len) (z : ℕ) (ez : z ≡ x .last)
@@ -206,11 +207,15 @@ module _ {text : Bytes} {words : List ℕ} {o : Options} {st : List Element} {x 
   ended-holds =
       root-joined text words st x len (e .end .elems) (e .end .root) (ltb (m .«end_pos») (length text)) r (λ q. rest-made text words m h r (e .good) (e .is) (e .end .here)) g (e .gap) (x .last) refl y (e .joined)
 
-  -- where the output was left as it was before it was written
-  pub ended-answer : {l₀ l k : Bytes} {a : Answer} → l ≡ l₀
-      → ((b : T.Body) → Holds text words (set (set st len (g .made)) (x .last) (y .last)) (y .top .first) b → AnswerIs (fit (length l) (write b)) l k a)
-      → AnswerIs (walkAnswer text words o (length l₀)) l₀ k a
+  pub ended-long : length (set (set st len (g .made)) (x .last) (y .last)) ≡ length st
+  ended-long = length-set (set st len (g .made)) (x .last) (y .last) ∙ length-set st len (g .made)
+
+  -- where every body that is held there was listed
+  pub ended-answer : {l k : Bytes} {q : ℕ} → q < largest
+      → ((b : T.Body) → Holds text words (set (set st len (g .made)) (x .last) (y .last)) (y .top .first) b → Written (write b) l 0 k q)
+      → BufferedIs (walkListing text words o) l k (Listed q)
   unfolding listing
-  ended-answer {l₀} {l} {k} {a} q w =
-      rw (e .end .answer (length l₀)) (subst (λ (i : Bytes). AnswerIs (fit (length i) (listing (bodyOf (restOf text words m (e .end .elems))))) i k a) q
-      (subst (λ (i : Elem). AnswerIs (fit (length l) (write (wholeWith i))) l k a) (rest-means text words m h r (e .good) (e .is) (e .end .here)) (w _ ended-holds)))
+  ended-answer {l} {k} {q} short w =
+      let v : Written (listing (bodyOf (restOf text words m (e .end .elems)))) l 0 k q =
+      subst (λ (i : Elem). Written (write (wholeWith i)) l 0 k q) (rest-means text words m h r (e .good) (e .is) (e .end .here)) (w _ ended-holds) in
+      record { means = record { bytes = _; answer = e .end .answer; count = omega (arith, v .next); stored = v .stored } }

@@ -44,12 +44,12 @@ pub mod SpanVisits
 pub mod SpanCases
 pub mod ShortTexts
 pub mod ShortExpressions
-pub mod ListAnswers
 pub mod Names
 pub mod Loop
 pub mod Finishing
 pub mod WalkEnds
 pub mod WalkStages
 pub mod LineLaws
-pub mod Passes
-pub mod ShortListing
+pub mod Pass
+pub mod ShortOpening
+pub mod Buffers

@@ -1,6 +1,6 @@
 -- The lister's loop: the body that is being listed, the blocks that wait for it, and that what writes the rest writes the whole. The
 -- measure is the size of what is left, read from the store. Assumes nothing.
-use Prim.Native.Nat.{ℕ, zero, suc, _+_, _-_, _<_, _≤_}
+use Prim.Native.Nat.{ℕ, zero, suc, _+_, _-_, _*_, _<_, _≤_}
 use native.Mathlib.Omega.{arith}
 use mathlib.Core.Path.{_≡_, refl, sym, ap, subst, _∙_}
 use mathlib.Core.List.{List, [], _∷_, _++_, append-nil, append-assoc}
@@ -18,7 +18,7 @@ use Rattle.listing.specs.Written.{largest, Written}
 use Rattle.listing.proofs.Writes.{written-then, written-length}
 use Rattle.listing.proofs.ChildWrites.{call-join, block-join}
 use Rattle.template.specs.Element.{roleOf, hasBody, Sound}
-use Rattle.template.specs.Store.{elementAt, Leaf, Helper, Wrapper, Chain, ElseAt, Holds, Stored}
+use Rattle.template.specs.Store.{elementAt, Leaf, Helper, Wrapper, Chain, Node, ElseAt, Holds, Stored}
 use Rattle.template.specs.Opening.{blockOpening, wrapOpening, openingBy, opening, waits, bodyEnd, deeper, linkInside, linkBehind}
 use Rattle.template.specs.declared.element.Element.{Element}
 use Rattle.template.specs.declared.list.Waiting as code
@@ -77,7 +77,7 @@ tail [] = ascii "]\n"
 tail (context m hi e r ∷ cs) = ascii "]\n" ++ (writeForms (elseForms e) ++ (ascii "]\n" ++ (bodyBytes r ++ tail cs)))
 
 -- the first line, and the rest
-listed : (b : Body) {l m n : Bytes} {at p q : ℕ} → length l ≤ largest → Written (ascii "[template\n") l at m p
+pub listed : (b : Body) {l m n : Bytes} {at p q : ℕ} → length l ≤ largest → Written (ascii "[template\n") l at m p
     → Written (bodyBytes b ++ ascii "]\n") m p n q
     → Written (write b) l at n q
 unfolding write writeForm writeHead writeFields
@@ -163,16 +163,6 @@ module _ (text : Bytes) (words : List ℕ) (st : List Element) where
   pub leftSize : List code.Waiting → ℕ → ℕ → ℕ
   leftSize ws at depth = bodySize (bodyAt text words (length st) st at) + waitingSize ws depth
 
-  -- the pass that is still to come, while the first one measures
-  pub again : Bool → ℕ → ℕ
-  again false first = 1 + bodySize (bodyAt text words (length st) st first)
-  again true first = 0
-
-  pub again-less : {measured : Bool} {depth : ℕ} (ws : List code.Waiting) (first at : ℕ) → measured ≡ false → depth ≡ 0
-      → again true first + leftSize ws first depth < again measured first + leftSize ws at depth
-  unfolding again leftSize waitingSize
-  again-less ws first at e d = rw (e, d) (omega arith)
-
   else-left : (i : Bool) (x : Element) (k m : ℕ) (e : Else) → 1 ≤ k → m ≤ length st → ElseLeft i x k m e
       → if i noElse (elseOf (x .inverted) (bodyAt text words (length st) st (x .inverse))) ≡ e
   else-left true x k m e h g s = sym s
@@ -196,7 +186,7 @@ module _ (text : Bytes) (words : List ℕ) (st : List Element) where
 
   -- ---- the state of the loop
 
-  -- bytes l and the position `start` before the listing, m and p now; the chain from `at` is what is left of the body that is being listed
+  -- bytes l and the position `start` behind the first line, m and p now; the chain from `at` is what is left of the body that is being listed
   pub record Lister (first : ℕ) (l : Bytes) (start : ℕ) (m : Bytes) (ws : List code.Waiting) (p at depth : ℕ) : Type 0 where
     body : Body
     holds : Holds text words st first body
@@ -212,7 +202,7 @@ module _ (text : Bytes) (words : List ℕ) (st : List Element) where
     stack : Stack ws hi contexts
     deep : length contexts ≡ depth
     pub long : length ws ≡ length st
-    whole : (k : Bytes) (r : ℕ) → Written (bodyBytes here ++ tail contexts) m p k r → Written (write body) l start k r
+    whole : (k : Bytes) (r : ℕ) → Written (bodyBytes here ++ tail contexts) m p k r → Written (bodyBytes body ++ ascii "]\n") l start k r
     pub same : length m ≡ length l
     position : p ≤ largest
 
@@ -224,12 +214,10 @@ module _ (text : Bytes) (words : List ℕ) (st : List Element) where
       let b = ap (waitingSize ws) (sym (s .deep)) ∙ stack-size ws (s .hi) (s .contexts) (s .stack) in
       omega (arith, a, b)
 
-  -- before the first turn, behind the first line
-  pub begins : {first : ℕ} {l m : Bytes} {start p : ℕ} (ws : List code.Waiting) → length ws ≡ length st → length l ≤ largest → Stored text words st first
-      → Written (ascii "[template\n") l start m p
-      → Lister first l start m ws p first 0
+  -- before the first turn
+  pub begins : {first : ℕ} {l : Bytes} {p : ℕ} (ws : List code.Waiting) → length ws ≡ length st → p ≤ largest → Stored text words st first → Lister first l p l ws p first 0
   unfolding tail
-  begins ws long g s w = record {
+  begins ws long g s = record {
     body = s .body;
     holds = s .holds;
     here = s .body;
@@ -244,10 +232,43 @@ module _ (text : Bytes) (words : List ℕ) (st : List Element) where
     stack = tt;
     deep = refl;
     long = long;
-    whole = λ k r v. listed (s .body) g w v;
-    same = written-length w;
-    position = omega (arith, w .next);
+    whole = λ k r v. v;
+    same = refl;
+    position = g;
   }
+
+  -- an element has at most three turns
+  mutual
+    unfolding bodySize
+
+    chain-size : (b : Body) (p l z lo hi : ℕ) → Chain text words st p l z lo hi b → bodySize b ≤ 3 * (hi - lo)
+    chain-size end p l z lo hi c = omega arith
+    chain-size (then e r) p l z lo hi c =
+        let x = node-size e l (c .0) (c .2) (c .4) in
+        let y = chain-size r l (elementAt st l .next) z (c .0) hi (c .5) in
+        omega (arith, c .1, c .2, c .3)
+
+    node-size : (e : Elem) (l m : ℕ) → l < m → Node text words st l m e → elemSize e ≤ 3 * (m - l)
+    node-size (item p x) l m h c = omega arith
+    node-size (block p v g b x) l m h c =
+        let y = chain-size b 0 (elementAt st l .template) (c .5 .0) (l + 1) (c .0) (c .5 .1) in
+        let z = else-size x (elementAt st l .inverted) (elementAt st l .inverse) (c .0) m (c .6) in
+        omega (arith, c .1, c .2)
+    node-size (wrap p w b) l m h c =
+        let y = chain-size b 0 (elementAt st l .template) (c .2 .0) (l + 1) m (c .2 .1) in
+        omega arith
+
+    else-size : (x : Else) (h : Bool) (l lo hi : ℕ) → ElseAt text words st h l lo hi x → elseSize x ≤ 3 * (hi - lo) + 1
+    else-size noElse h l lo hi c = omega arith
+    else-size (else b) h l lo hi c = let y = chain-size b 0 l (c .0) lo hi (c .2) in omega arith
+
+  pub first-size : {first : ℕ} (ws : List code.Waiting) → Stored text words st first → leftSize ws first 0 ≤ 3 * length st
+  unfolding leftSize waitingSize
+  first-size {first} ws s =
+      let h = s .holds in
+      let a = ap bodySize (chain-read text words (s .body) (length st) st 0 first (h .last) 1 (h .len) (omega arith) (omega (arith, h .few)) (h .chain)) in
+      let b = chain-size (s .body) 0 first (h .last) 1 (h .len) (h .chain) in
+      omega (arith, a, b, h .few)
 
   pub block-node : {o : Option Place} {h : Head} {e : Element} {c : Bool} → Helper text words o h e → e .chain ≡ c → (b : Body) (x : Else)
       → writeForm (elemForm (block o c h b x)) ≡ opening text words e ++ (bodyBytes b ++ (ascii "]\n" ++ (writeForms (elseForms x) ++ ascii "]\n")))
@@ -322,18 +343,18 @@ module _ (text : Bytes) (words : List ℕ) (st : List Element) where
 
   module _ {first : ℕ} {l m : Bytes} {ws : List code.Waiting} {start p at depth : ℕ} (g : length l ≤ largest) (s : Lister first l start m ws p at depth) where
     -- the rest, from what was written and what is still to be
-    onward : {x y n k : Bytes} {q r : ℕ} → bodyBytes (s .here) ++ tail (s .contexts) ≡ x ++ y → Written x m p n q → Written y n q k r → Written (write (s .body)) l start k r
+    onward : {x y n k : Bytes} {q r : ℕ} → bodyBytes (s .here) ++ tail (s .contexts) ≡ x ++ y → Written x m p n q → Written y n q k r → Written (bodyBytes (s .body) ++ ascii "]\n") l start k r
     onward {k = k} {r = r} e a b = s .whole k r (subst (λ z. Written z m p k r) (sym e) (written-then (omega (arith, s .same)) a b))
 
     -- nothing is left
     pub finished : {n : Bytes} {q : ℕ} → at ≡ 0 → depth ≡ 0 → Written (ascii "]\n") m p n q
-        → (b : Body) → Holds text words st first b → Written (write b) l start n q
+        → (b : Body) → Holds text words st first b → Written (bodyBytes b ++ ascii "]\n") l start n q
     unfolding tail writeForm bodyForms
     finished {n} {q} a d w b h =
         let e : s .here ≡ end = ended (s .here) (s .before) at (s .last) (s .lo) (s .hi) (s .chain) (omega (arith, s .low)) a in
         let f : s .contexts ≡ [] = no-context (s .contexts) (s .deep ∙ d) in
         let v : Written (bodyBytes (s .here) ++ tail (s .contexts)) m p n q = rw (e, f) w in
-        subst (λ z. Written (write z) l start n q) (holds-one text words (s .holds) h) (s .whole n q v)
+        subst (λ z. Written (bodyBytes z ++ ascii "]\n") l start n q) (holds-one text words (s .holds) h) (s .whole n q v)
 
     -- the element at a link that is not 0
     module _ (some : at ≡ 0 → ⊥) where

@@ -22,12 +22,11 @@ use Rattle.template.specs.Result.{accepted, refused}
 use Rattle.template.specs.Nests.{isFilling, blockOpen, onlyTemplates, unfinished}
 use Rattle.template.specs.Walk.{walkBy, rootBody, readSpans}
 use Rattle.template.specs.Walk as spec
-use Rattle.template.specs.Compile.{fit}
 use Rattle.template.specs.Element.{Good, emptyElement}
 use Rattle.template.specs.Store.{elementAt, Chain}
 use Rattle.template.specs.Visit.{stageMeans, MarksAre, Tells, visitMeans, VisitIs}
 use Rattle.template.specs.Turn.{emptyFrame, stillStep, LookIs}
-use Rattle.template.specs.Finish.{unfinishedAt, walkAnswer}
+use Rattle.template.specs.Finish.{unfinishedAt, walkListing}
 use Rattle.template.specs.declared.element.TemplateElement.the-variants as E
 use Rattle.template.specs.declared.element.Element.{Element}
 use Rattle.template.specs.declared.frame.Frame.{Frame}
@@ -100,10 +99,10 @@ module _ (text : Bytes) (words : List ℕ) (o : Options) where
   refused-open v at false r f k e = refl
 
   -- a span turns the card away
-  pub turned-away : (room : ℕ) (v : View) (at : ℕ) (r : Visit) (f : Refusal) (s : State) → LookIs text words o v at false r → r ≡ Vis.Refused f → Tells text v s
-      → walked text words o initial 0 ≡ walked text words o s at → walkAnswer text words o room ≡ refused (f .number) (f .place)
+  pub turned-away : (v : View) (at : ℕ) (r : Visit) (f : Refusal) (s : State) → LookIs text words o v at false r → r ≡ Vis.Refused f → Tells text v s
+      → walked text words o initial 0 ≡ walked text words o s at → walkListing text words o ≡ refused (f .number) (f .place)
   unfolding readSpans
-  turned-away room v at r f s k e t w = rw (w ∙ subst (λ (q : Visit). visitMeans text words o at q s) e (k .visits refl .means s t))
+  turned-away v at r f s k e t w = rw (w ∙ subst (λ (q : Visit). visitMeans text words o at q s) e (k .visits refl .means s t))
 
   -- the list ends
   pub list-ends : (v : View) (at : ℕ) (r : Visit) (s : State) → LookIs text words o v at false r → r ≡ Vis.End → Tells text v s
@@ -140,17 +139,17 @@ module _ (text : Bytes) (words : List ℕ) (o : Options) where
   or-right false b e = e
 
   -- 7
-  pub too-early : (room : ℕ) (s : State) → walked text words o initial 0 ≡ accepted s → unfinished text s ≡ true → walkAnswer text words o room ≡ refused 7 (spanCount words)
+  pub too-early : (s : State) → walked text words o initial 0 ≡ accepted s → unfinished text s ≡ true → walkListing text words o ≡ refused 7 (spanCount words)
   unfolding readSpans spec.finish
-  too-early room s w e = rw (w, e)
+  too-early s w e = rw (w, e)
 
   body-of : (m : Marks) (s : State) (l : Level) (es : List Elem) → l ≡ level root es → m .«end_pos» ≡ prevEnd s → rootBody text s l ≡ bodyOf (restOf text words m es)
   body-of m s l es q p = rw (q, p)
 
-  pub whole : (room : ℕ) (m : Marks) (s : State) (es : List Elem) → walked text words o initial 0 ≡ accepted s → unfinished text s ≡ false → s .top ≡ level root es → m .«end_pos» ≡ prevEnd s
-      → walkAnswer text words o room ≡ fit room (listing (bodyOf (restOf text words m es)))
+  pub whole : (m : Marks) (s : State) (es : List Elem) → walked text words o initial 0 ≡ accepted s → unfinished text s ≡ false → s .top ≡ level root es → m .«end_pos» ≡ prevEnd s
+      → walkListing text words o ≡ accepted (listing (bodyOf (restOf text words m es)))
   unfolding readSpans spec.finish
-  whole room m s es w e q p = rw (w, e) (ap (λ b. fit room (listing b)) (body-of m s (s .top) es q p))
+  whole m s es w e q p = rw (w, e) (ap (λ b. accepted (listing b)) (body-of m s (s .top) es q p))
 
   module _ (n : ℕ) (st : List Element) (lv : List Frame) (x : Frame) (m : Marks) (depth len count : ℕ) (good : Good text words) (s : State)
       (k : Kept text words n st lv x depth len count false (s .top) (s .outer)) (within : len < n) (done : unfinishedAt text m depth ≡ false) where

@@ -15,7 +15,7 @@ use Rattle.template.specs.Links.{BlockNameIs}
 use Rattle.template.specs.Nests.{unfinished}
 use Rattle.template.specs.Visit.{HereIs, Tells}
 use Rattle.template.specs.Turn.{LookIs}
-use Rattle.template.specs.Finish.{unfinishedAt, walkAnswer}
+use Rattle.template.specs.Finish.{unfinishedAt, walkListing}
 use Rattle.template.specs.declared.element.Element.{Element}
 use Rattle.template.specs.declared.frame.Frame.{Frame}
 use Rattle.template.specs.declared.frame.Marks.{Marks}
@@ -46,10 +46,10 @@ module _ {text : Bytes} {words : List ℕ} {o : Options} where
     pub look-goes : (p : Step) → seen ≡ Vis.Step p → Goes text words o at closing p (held .now)
     look-goes p e = goes text words o closing (viewOf m x name count h) at seen p (held .now) look e (held .marks) (held .here) told
 
-    pub look-refused : (room : ℕ) (f : Refusal) → seen ≡ Vis.Refused f → walkAnswer text words o room ≡ refused (f .number) (f .place)
-    look-refused room f e =
+    pub look-refused : (f : Refusal) → seen ≡ Vis.Refused f → walkListing text words o ≡ refused (f .number) (f .place)
+    look-refused f e =
         let q = refused-open text words o (viewOf m x name count h) at closing seen f look e in
-        turned-away text words o room (viewOf m x name count h) at seen f (held .now) (rw q at look) e (told q) (held .walks)
+        turned-away text words o (viewOf m x name count h) at seen f (held .now) (rw q at look) e (told q) (held .walks)
 
     look-open : seen ≡ Vis.End → closing ≡ false
     look-open e = end-open text words o (viewOf m x name count h) at closing seen look e
@@ -65,8 +65,8 @@ module _ {text : Bytes} {words : List ℕ} {o : Options} where
     same : seen ≡ Vis.End → unfinishedAt text m depth ≡ unfinished text (held .now)
     same e = unfinished-is text words o m depth (held .now) (held .marks) (kept-open e .fits .deep)
 
-    pub look-early : (room : ℕ) (u : Bool) → seen ≡ Vis.End → u ≡ unfinishedAt text m depth → u ≡ true → walkAnswer text words o room ≡ refused 7 (spanCount words)
-    look-early room u e a b = too-early text words o room (held .now) (look-ends e) (sym (same e) ∙ sym a ∙ b)
+    pub look-early : (u : Bool) → seen ≡ Vis.End → u ≡ unfinishedAt text m depth → u ≡ true → walkListing text words o ≡ refused 7 (spanCount words)
+    look-early u e a b = too-early text words o (held .now) (look-ends e) (sym (same e) ∙ sym a ∙ b)
 
     module _ (good : Good text words) {u : Bool} (e : seen ≡ Vis.End) (a : u ≡ unfinishedAt text m depth) (b : u ≡ false) where
       root-at : (es : List Elem) × (held .now .top ≡ level root es) × RootIs text words st x len es
@@ -78,5 +78,5 @@ module _ {text : Bytes} {words : List ℕ} {o : Options} where
             elems = root-at .0;
             root = root-at .2;
             here = subst (λ (i : ℕ). HereIs text h i) (sym (held .marks .previous)) (held .here);
-            answer = λ room. whole text words o room m (held .now) (root-at .0) (look-ends e) (sym (same e) ∙ sym a ∙ b) (root-at .1) (held .marks .previous);
+            answer = whole text words o m (held .now) (root-at .0) (look-ends e) (sym (same e) ∙ sym a ∙ b) (root-at .1) (held .marks .previous);
           }

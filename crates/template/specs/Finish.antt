@@ -9,7 +9,7 @@ use Rattle.support.specs.Bytes.{Bytes, part}
 use Rattle.support.specs.Position.{placeOf, lineCol}
 use Rattle.json_path.specs.Span.{spanCount}
 use Rattle.listing.specs.Listing.{listing}
-use Rattle.template.specs.Result.{Result, _>>=_}
+use Rattle.template.specs.Result.{Result, accepted, _>>=_}
 use Rattle.template.specs.Nests.{isFilling}
 use Rattle.template.specs.Walk.{readSpans}
 use Rattle.template.specs.Compile.{fit}
@@ -37,7 +37,13 @@ pub record RestIs (text : Bytes) (words : List ℕ) (m : Marks) (h : Here) (r : 
   pub new : r ≡ newElement (E.RawString (restText text words m)) (r .place)
   pub place : placeOf (r .place) ≡ lineCol (placeOf (h .place)) (part text (h .at) (m .«end_pos»))
 
--- what the walk answers
+-- what the walk lists, or why it does not
+abbrev pub walkListing : Bytes → List ℕ → Options → Result Bytes
+walkListing text words o = do
+  r ← readSpans text words (o .«prevent_indent») (o .«is_partial»)
+  accepted (listing r)
+
+-- the same where the listing may be too long
 abbrev pub walkAnswer : Bytes → List ℕ → Options → ℕ → Result Bytes
 walkAnswer text words o room = do
   r ← readSpans text words (o .«prevent_indent») (o .«is_partial»)

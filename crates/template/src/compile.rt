@@ -8,14 +8,99 @@ use crate::small::walk_small;
 use crate::visit::Options;
 use crate::walk::walk;
 use json_path::span::span_count;
+ghost use Prim.Native.Nat.{_*_, _≤_, _<_};
+ghost use mathlib.Core.Path.{_≡_};
 ghost use lib.ListN.{length};
+ghost use lib.Seq.{paste};
+ghost use Rattle.json_path.specs.Span.{spanCount};
 ghost use Rattle.template.specs.Compile.{answer};
 ghost use Rattle.template.specs.Answers.{AnswerIs};
+ghost use Rattle.template.specs.Element.{Good};
+ghost use Rattle.template.specs.Lines.{LinesAre};
+ghost use Rattle.template.specs.Finish.{walkAnswer};
 
 // The listing's length, or a number from 1 to 14 and a place.
 pub enum Answer {
     Listed(usize),
     Refused(u32, usize),
+}
+
+impl Answer {
+    // How many bytes the buffers have.
+    pub const BUFFER: usize = 65536;
+
+    pub const SMALL: usize = 32768;
+}
+
+// The first `n` bytes.
+fn copy_front(out: &mut [u8], bytes: &[u8], n: usize)
+    requires { ⌜ (n ≤ length (now out)) × (n ≤ length (now bytes)) ⌝ }
+    ensures { λ r. ⌜ now (out .exit) ≡ paste (now (out .entry)) 0 (now (bytes .entry)) n ⌝ }
+{
+    let mut i: usize = 0;
+    while i < n {
+        out[i] = bytes[i];
+        i += 1;
+    }
+}
+
+// The tree is listed into a buffer, since the output stays as it was if the listing is too long for it. A
+// listing that is longer than the buffer and fits the output is made again, there.
+fn compile_large(
+    text: &[u8],
+    starts: &[bool],
+    ends: &[bool],
+    words: &[u32],
+    o: Options,
+    out: &mut [u8],
+) -> Answer
+    requires { ⌜ Good (now text) (now words) ⌝ ∗ ⌜ LinesAre (now text) (now starts) (now ends) ⌝ }
+    ensures { λ r. ⌜ AnswerIs (walkAnswer (now (text .entry)) (now (words .entry)) o (length (now (out .entry)))) (now (out .entry)) (now (out .exit)) r ⌝ }
+{
+    let mut buffer = [0u8; Answer::BUFFER];
+    let a = walk(text, starts, ends, words, o, &mut buffer);
+    match a {
+        Answer::Refused(number, place) => Answer::Refused(number, place),
+        Answer::Listed(n) => {
+            if out.len() < n {
+                return Answer::Refused(14, n);
+            }
+            if Answer::BUFFER < n {
+                return walk(text, starts, ends, words, o, out);
+            }
+            copy_front(out, &buffer, n);
+            Answer::Listed(n)
+        }
+    }
+}
+
+// The same for at most 320 spans.
+fn compile_small(
+    text: &[u8],
+    starts: &[bool],
+    ends: &[bool],
+    words: &[u32],
+    o: Options,
+    out: &mut [u8],
+) -> Answer
+    requires { ⌜ Good (now text) (now words) ⌝ ∗ ⌜ LinesAre (now text) (now starts) (now ends) ⌝ ∗ ⌜ 2 * spanCount (now words) < 641 ⌝ }
+    ensures { λ r. ⌜ AnswerIs (walkAnswer (now (text .entry)) (now (words .entry)) o (length (now (out .entry)))) (now (out .entry)) (now (out .exit)) r ⌝ }
+{
+    let mut buffer = [0u8; Answer::SMALL];
+    let a = walk_small(text, starts, ends, words, o, &mut buffer);
+    match a {
+        Answer::Refused(number, place) => Answer::Refused(number, place),
+        Answer::Listed(n) => {
+            if out.len() < n {
+                return Answer::Refused(14, n);
+            }
+            if Answer::SMALL < n {
+                return walk_small(text, starts, ends, words, o, out);
+            }
+            copy_front(out, &buffer, n);
+            Answer::Listed(n)
+        }
+    }
 }
 
 // Lists the tree of a text into `out`, or says why not. A call that refuses leaves `out` as it was, one
@@ -35,18 +120,10 @@ pub fn compile2(text: &[u8], spans: &[u32], options: u32, out: &mut [u8]) -> Ans
                 is_partial: options / 2 % 2 == 1,
             };
             let count = span_count(spans);
-            // Each walk is called in two places, so that neither is compiled into this function: a frame's pages
-            // are touched when it is entered, and no call should pay for a store that it does not use.
-            if o.is_partial {
-                if 2 * count < Element::SMALL {
-                    return walk_small(text, &starts, &ends, spans, o, out);
-                }
-                return walk(text, &starts, &ends, spans, o, out);
-            }
             if 2 * count < Element::SMALL {
-                return walk_small(text, &starts, &ends, spans, o, out);
+                return compile_small(text, &starts, &ends, spans, o, out);
             }
-            walk(text, &starts, &ends, spans, o, out)
+            compile_large(text, &starts, &ends, spans, o, out)
         }
     }
 }

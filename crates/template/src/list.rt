@@ -1,5 +1,4 @@
-// The lister: it goes through the store along its links and writes document 01's forms.
-use crate::compile::Answer;
+// What the walk lists its tree with: document 01's forms, an element at a time.
 use crate::element::Comment;
 use crate::element::DecoratorTemplate;
 use crate::element::Element;
@@ -18,7 +17,7 @@ use support::position::Place;
 use support::str::find_trailing_whitespace_chars;
 use support::str::hbs_comment_compact_text;
 use support::str::hbs_comment_text;
-ghost use Prim.Native.Nat.{_<_};
+ghost use Prim.Native.Nat.{_≤_, _<_};
 ghost use mathlib.Core.Path.{_≡_};
 ghost use mathlib.Core.List.{[], _++_};
 ghost use mathlib.Core.Bool.{_&&_, not};
@@ -27,14 +26,10 @@ ghost use Rattle.support.specs.Bytes.{ascii};
 ghost use Rattle.listing.specs.Quoted.{quoted};
 ghost use Rattle.listing.specs.Form.{writeField, writeForm, writeForms};
 ghost use Rattle.listing.specs.Tree as Tree;
-ghost use Rattle.listing.specs.Tree.{Body};
-ghost use Rattle.listing.specs.Listing.{bit, placeField, indentField, itemForm, write};
+ghost use Rattle.listing.specs.Listing.{bit, placeField, indentField, itemForm};
 ghost use Rattle.listing.specs.Children.{helperChildren};
 ghost use Rattle.listing.specs.Written.{Written};
-ghost use Rattle.template.specs.Compile.{fit};
-ghost use Rattle.template.specs.Answers.{AnswerIs};
 ghost use Rattle.template.specs.Element.{placeMeans, linkOf, rawMeans, commentMeans, indentMeans, headAt, Good, RawGood, Sound};
-ghost use Rattle.template.specs.Store.{Holds, Stored};
 ghost use Rattle.template.specs.Opening.{blockOpening, decoratedBytes, opening, waits, bodyEnd, deeper, linkInside, linkBehind};
 
 // A block of which the body, or the else, is being listed.
@@ -207,7 +202,8 @@ fn write_decorated(
     put_bytes(out, u, end)
 }
 
-// An element up to its body, if it has one.
+// An element up to its body, if it has one. What is written is short, so that no listing is too long to be
+// counted.
 pub(crate) fn write_element(
     out: &mut [u8],
     at: usize,
@@ -216,7 +212,7 @@ pub(crate) fn write_element(
     e: Element,
 ) -> usize
     requires { ⌜ Good (now text) (now words) × Sound (now text) (now words) (e .name) (e .element) ⌝ }
-    ensures { λ r. ⌜ Written (opening (now (text .entry)) (now (words .entry)) e) (now (out .entry)) at (now (out .exit)) r ⌝ }
+    ensures { λ r. ⌜ Written (opening (now (text .entry)) (now (words .entry)) e) (now (out .entry)) at (now (out .exit)) r × (length (opening (now (text .entry)) (now (words .entry)) e) ≤ 11000000000) ⌝ }
 {
     let x = e.element;
     let p = e.place;
@@ -295,56 +291,4 @@ pub(crate) fn link_behind(e: Element, more: bool) -> usize
         return e.inverse;
     }
     e.next
-}
-
-// Goes from element to element, and back to the block that waits where a body ends: once from the
-// end of the output on, where nothing is stored, to measure; and again to write what fits. One loop
-// does both, since the store is too big to be handed on.
-pub(crate) fn list(
-    elements: [Element; Element::LIMIT],
-    first: usize,
-    text: &[u8],
-    words: &[u32],
-    out: &mut [u8],
-) -> Answer
-    requires { ⌜ Good (now text) (now words) × Stored (now text) (now words) elements first ⌝ }
-    ensures { λ r. ⌜ ((b : Body) → Holds (now (text .entry)) (now (words .entry)) elements first b → AnswerIs (fit (length (now (out .entry))) (write b)) (now (out .entry)) (now (out .exit)) r) ⌝ }
-{
-    let mut waiting = [Waiting::EMPTY; Element::LIMIT];
-    let mut measured = false;
-    let end = out.len();
-    let mut p = put_bytes(out, end, b"[template\n");
-    let mut at = first;
-    let mut depth: usize = 0;
-    loop {
-        if at > 0 {
-            let e = elements[at];
-            let more = e.has_body();
-            p = write_element(out, p, text, words, e);
-            waiting[depth] = Waiting::new(at, false);
-            depth = deeper(depth, more);
-            at = link_inside(e, more);
-        } else if depth > 0 {
-            depth -= 1;
-            let w = waiting[depth];
-            let block = w.block;
-            let e = elements[block];
-            let more = has_else(e, w);
-            p = write_end(out, p, more);
-            waiting[depth] = Waiting::new(block, true);
-            depth = deeper(depth, more);
-            at = link_behind(e, more);
-        } else {
-            p = put_bytes(out, p, b"]\n");
-            if measured {
-                return Answer::Listed(p);
-            }
-            if end < p - end {
-                return Answer::Refused(14, p - end);
-            }
-            measured = true;
-            p = put_bytes(out, 0, b"[template\n");
-            at = first;
-        }
-    }
 }

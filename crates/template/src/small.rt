@@ -1,6 +1,5 @@
-// The walk and the lister over a store for few spans. To fill the whole store and to hand it on takes longer
-// than the work on a small card. They stand twice since the store is a local: its size is in its type, and it
-// cannot be lent.
+// The walk over a store for few spans. To fill the whole store takes longer than the work on a small card.
+// It stands twice since the store is a local: its size is in its type, and it cannot be lent.
 use crate::compile::Answer;
 use crate::element::Element;
 use crate::frame::Frame;
@@ -37,66 +36,11 @@ use json_path::span::span_count;
 use listing::write::put_bytes;
 use support::position::Place;
 ghost use Prim.Native.Nat.{_*_, _<_};
-ghost use lib.ListN.{length};
 ghost use Rattle.json_path.specs.Span.{spanCount};
-ghost use Rattle.listing.specs.Tree.{Body};
-ghost use Rattle.listing.specs.Listing.{write};
-ghost use Rattle.template.specs.Compile.{fit};
-ghost use Rattle.template.specs.Answers.{AnswerIs};
+ghost use Rattle.template.specs.Answers.{BufferedIs};
 ghost use Rattle.template.specs.Element.{Good};
-ghost use Rattle.template.specs.Store.{Holds, Stored};
 ghost use Rattle.template.specs.Lines.{LinesAre};
-ghost use Rattle.template.specs.Finish.{walkAnswer};
-
-// As `list`.
-fn list_small(
-    elements: [Element; Element::SMALL],
-    first: usize,
-    text: &[u8],
-    words: &[u32],
-    out: &mut [u8],
-) -> Answer
-    requires { ⌜ Good (now text) (now words) × Stored (now text) (now words) elements first ⌝ }
-    ensures { λ r. ⌜ ((b : Body) → Holds (now (text .entry)) (now (words .entry)) elements first b → AnswerIs (fit (length (now (out .entry))) (write b)) (now (out .entry)) (now (out .exit)) r) ⌝ }
-{
-    let mut waiting = [Waiting::EMPTY; Element::SMALL];
-    let mut measured = false;
-    let end = out.len();
-    let mut p = put_bytes(out, end, b"[template\n");
-    let mut at = first;
-    let mut depth: usize = 0;
-    loop {
-        if at > 0 {
-            let e = elements[at];
-            let more = e.has_body();
-            p = write_element(out, p, text, words, e);
-            waiting[depth] = Waiting::new(at, false);
-            depth = deeper(depth, more);
-            at = link_inside(e, more);
-        } else if depth > 0 {
-            depth -= 1;
-            let w = waiting[depth];
-            let block = w.block;
-            let e = elements[block];
-            let more = has_else(e, w);
-            p = write_end(out, p, more);
-            waiting[depth] = Waiting::new(block, true);
-            depth = deeper(depth, more);
-            at = link_behind(e, more);
-        } else {
-            p = put_bytes(out, p, b"]\n");
-            if measured {
-                return Answer::Listed(p);
-            }
-            if end < p - end {
-                return Answer::Refused(14, p - end);
-            }
-            measured = true;
-            p = put_bytes(out, 0, b"[template\n");
-            at = first;
-        }
-    }
-}
+ghost use Rattle.template.specs.Finish.{walkListing};
 
 // As `walk`, for at most 320 spans.
 pub(crate) fn walk_small(
@@ -108,7 +52,7 @@ pub(crate) fn walk_small(
     out: &mut [u8],
 ) -> Answer
     requires { ⌜ Good (now text) (now words) ⌝ ∗ ⌜ LinesAre (now text) (now starts) (now ends) ⌝ ∗ ⌜ 2 * spanCount (now words) < 641 ⌝ }
-    ensures { λ r. ⌜ AnswerIs (walkAnswer (now (text .entry)) (now (words .entry)) o (length (now (out .entry)))) (now (out .entry)) (now (out .exit)) r ⌝ }
+    ensures { λ r. ⌜ BufferedIs (walkListing (now (text .entry)) (now (words .entry)) o) (now (out .entry)) (now (out .exit)) r ⌝ }
 {
     let mut elements = [Element::EMPTY; Element::SMALL];
     let mut levels = [Frame::EMPTY; Frame::LIMIT];
@@ -145,17 +89,7 @@ pub(crate) fn walk_small(
                 if unfinished(text, marks, depth) {
                     return Answer::Refused(7, span_count(words));
                 }
-                let rest = rest_of(text, words, marks, here);
-                let rg = take_gap(marks.end_pos < text.len(), rest, len);
-                let rm = rg.made;
-                elements[len] = rm;
-                let rl = top.last;
-                let rx = elements[rl];
-                let rj = join(top, rx, rg.join);
-                let rz = rj.last;
-                elements[rl] = rz;
-                let rt = rj.top;
-                return list_small(elements, rt.first, text, words, out);
+                break;
             }
             Visit::Step(s) => {
                 let ge = s.gap;
@@ -212,6 +146,42 @@ pub(crate) fn walk_small(
                 here = s.here;
                 at = s.next;
             }
+        }
+    }
+    let rest = rest_of(text, words, marks, here);
+    let rg = take_gap(marks.end_pos < text.len(), rest, len);
+    let rm = rg.made;
+    elements[len] = rm;
+    let rl = top.last;
+    let rx = elements[rl];
+    let rj = join(top, rx, rg.join);
+    let rz = rj.last;
+    elements[rl] = rz;
+    let rt = rj.top;
+    let mut waiting = [Waiting::EMPTY; Element::SMALL];
+    let mut p = put_bytes(out, 0, b"[template\n");
+    let mut link = rt.first;
+    let mut waits: usize = 0;
+    loop {
+        if link > 0 {
+            let e = elements[link];
+            let more = e.has_body();
+            p = write_element(out, p, text, words, e);
+            waiting[waits] = Waiting::new(link, false);
+            waits = deeper(waits, more);
+            link = link_inside(e, more);
+        } else if waits > 0 {
+            waits -= 1;
+            let w = waiting[waits];
+            let b = w.block;
+            let e = elements[b];
+            let more = has_else(e, w);
+            p = write_end(out, p, more);
+            waiting[waits] = Waiting::new(b, true);
+            waits = deeper(waits, more);
+            link = link_behind(e, more);
+        } else {
+            return Answer::Listed(put_bytes(out, p, b"]\n"));
         }
     }
 }

@@ -7,7 +7,13 @@ use crate::element::RawString;
 use crate::element::TemplateElement;
 use crate::frame::Frame;
 use crate::frame::Marks;
-use crate::list::list;
+use crate::list::Waiting;
+use crate::list::deeper;
+use crate::list::has_else;
+use crate::list::link_behind;
+use crate::list::link_inside;
+use crate::list::write_element;
+use crate::list::write_end;
 use crate::reason::is_filling;
 use crate::turn::Gapped;
 use crate::turn::Joined;
@@ -29,16 +35,16 @@ use crate::visit::Visit;
 use crate::visit::visit_span;
 use expression::parameter::AsName;
 use json_path::span::span_count;
+use listing::write::put_bytes;
 use support::bytes::part;
 use support::position::Place;
 use support::position::line_col;
 ghost use mathlib.Core.Path.{_≡_};
-ghost use lib.ListN.{length};
 ghost use Rattle.template.specs.Element.{Good};
-ghost use Rattle.template.specs.Answers.{AnswerIs};
+ghost use Rattle.template.specs.Answers.{BufferedIs};
 ghost use Rattle.template.specs.Lines.{LinesAre};
 ghost use Rattle.template.specs.Turn.{LookIs};
-ghost use Rattle.template.specs.Finish.{unfinishedAt, RestIs, walkAnswer};
+ghost use Rattle.template.specs.Finish.{unfinishedAt, RestIs, walkListing};
 
 // A turn's visit; while a block closes, nothing is visited.
 pub(crate) fn look(
@@ -101,9 +107,11 @@ pub(crate) fn rest_of(text: &[u8], words: &[u32], m: Marks, h: Here) -> Element
     )
 }
 
-// Each turn: what is visited, the gap, the trim of the last text, the act. At the end of the list the text
-// that is left joins the root's body. The store and the frames are written at every turn, with what was
-// there where nothing changes.
+// Each turn: what is visited, the gap, the trim of the last text, the act. The store and the frames are
+// written at every turn, with what was there where nothing changes. At the end of the list the text that is
+// left joins the root's body. Then the tree is listed: from element to element, and back to the block that
+// waits where a body ends. What the output has no room for is only counted. Both loops stand in one
+// function, since the store cannot be lent and is too big to be handed on.
 pub(crate) fn walk(
     text: &[u8],
     starts: &[bool],
@@ -113,7 +121,7 @@ pub(crate) fn walk(
     out: &mut [u8],
 ) -> Answer
     requires { ⌜ Good (now text) (now words) ⌝ ∗ ⌜ LinesAre (now text) (now starts) (now ends) ⌝ }
-    ensures { λ r. ⌜ AnswerIs (walkAnswer (now (text .entry)) (now (words .entry)) o (length (now (out .entry)))) (now (out .entry)) (now (out .exit)) r ⌝ }
+    ensures { λ r. ⌜ BufferedIs (walkListing (now (text .entry)) (now (words .entry)) o) (now (out .entry)) (now (out .exit)) r ⌝ }
 {
     let mut elements = [Element::EMPTY; Element::LIMIT];
     let mut levels = [Frame::EMPTY; Frame::LIMIT];
@@ -150,17 +158,7 @@ pub(crate) fn walk(
                 if unfinished(text, marks, depth) {
                     return Answer::Refused(7, span_count(words));
                 }
-                let rest = rest_of(text, words, marks, here);
-                let rg = take_gap(marks.end_pos < text.len(), rest, len);
-                let rm = rg.made;
-                elements[len] = rm;
-                let rl = top.last;
-                let rx = elements[rl];
-                let rj = join(top, rx, rg.join);
-                let rz = rj.last;
-                elements[rl] = rz;
-                let rt = rj.top;
-                return list(elements, rt.first, text, words, out);
+                break;
             }
             Visit::Step(s) => {
                 let ge = s.gap;
@@ -217,6 +215,42 @@ pub(crate) fn walk(
                 here = s.here;
                 at = s.next;
             }
+        }
+    }
+    let rest = rest_of(text, words, marks, here);
+    let rg = take_gap(marks.end_pos < text.len(), rest, len);
+    let rm = rg.made;
+    elements[len] = rm;
+    let rl = top.last;
+    let rx = elements[rl];
+    let rj = join(top, rx, rg.join);
+    let rz = rj.last;
+    elements[rl] = rz;
+    let rt = rj.top;
+    let mut waiting = [Waiting::EMPTY; Element::LIMIT];
+    let mut p = put_bytes(out, 0, b"[template\n");
+    let mut link = rt.first;
+    let mut waits: usize = 0;
+    loop {
+        if link > 0 {
+            let e = elements[link];
+            let more = e.has_body();
+            p = write_element(out, p, text, words, e);
+            waiting[waits] = Waiting::new(link, false);
+            waits = deeper(waits, more);
+            link = link_inside(e, more);
+        } else if waits > 0 {
+            waits -= 1;
+            let w = waiting[waits];
+            let b = w.block;
+            let e = elements[b];
+            let more = has_else(e, w);
+            p = write_end(out, p, more);
+            waiting[waits] = Waiting::new(b, true);
+            waits = deeper(waits, more);
+            link = link_behind(e, more);
+        } else {
+            return Answer::Listed(put_bytes(out, p, b"]\n"));
         }
     }
 }

@@ -28,76 +28,41 @@ find-lines-requires c κs =
 span-count-requires : tie.Need-span-count-requires
 span-count-requires c κs = search needs
 
-mul-if2 : tie.Need-mul-if2
-mul-if2 c = omega (arith, compiles.passed (c .before .before .before .before .before .before .before .before .before .checks .ensures) (c .before .before .before .before .before .before .before .enum-told .given .1) .good .few, c .before .span-count .ensures)
+mul-if1 : tie.Need-mul-if1
+mul-if1 c = search needs
 
-slice-aggregate-walk-small : tie.Need-slice-aggregate-walk-small
-slice-aggregate-walk-small c = search needs
+slice-aggregate-compile-small : tie.Need-slice-aggregate-compile-small
+slice-aggregate-compile-small c = search needs
 
-slice-aggregate-walk-small-2 : tie.Need-slice-aggregate-walk-small-2
-slice-aggregate-walk-small-2 c = search needs
+slice-aggregate-compile-small-2 : tie.Need-slice-aggregate-compile-small-2
+slice-aggregate-compile-small-2 c = search needs
 
-walk-small-requires : tie.Need-walk-small-requires
-walk-small-requires c κs =
-    (compiles.passed (c .before .before .before .before .before .before .before .before .before .before .before .before .before .checks .ensures) (c .before .before .before .before .before .before .before .before .before .before .before .enum-told .given .1) .good, (c .before .before .before .before .before .before .before .before .find-lines .ensures, omega (arith, c .before .before .before .before .before .span-count .ensures, c .before .before .before .if2 .taken)))
+compile-small-requires : tie.Need-compile-small-requires
+compile-small-requires c κs = (compiles.passed (c .before .before .before .before .before .before .before .before .before .before .before .before .checks .ensures) (c .before .before .before .before .before .before .before .before .before .before .enum-told .given .1) .good, (c .before .before .before .before .before .before .before .find-lines .ensures, omega (arith, c .before .before .before .before .span-count .ensures, c .before .before .before .if1 .taken)))
 
 same-length : tie.Need-same-length
 same-length c = search needs
 
 returns : tie.Need-returns
-returns c = compiles.walked (c .before .before .before .before .before .before .before .before .before .before .before .before .before .before .before .before .checks .ensures) (c .before .before .before .before .before .before .before .before .before .before .before .before .before .before .enum-told .given .1) (c .before .before .walk-small .ensures)
+returns c = compiles.walked (c .before .before .before .before .before .before .before .before .before .before .before .before .before .before .before .checks .ensures) (c .before .before .before .before .before .before .before .before .before .before .before .before .before .enum-told .given .1) (c .before .before .compile-small .ensures)
 
-slice-aggregate-walk : tie.Need-slice-aggregate-walk
-slice-aggregate-walk c = search needs
+slice-aggregate-compile-large : tie.Need-slice-aggregate-compile-large
+slice-aggregate-compile-large c = search needs
 
-slice-aggregate-walk-2 : tie.Need-slice-aggregate-walk-2
-slice-aggregate-walk-2 c = search needs
+slice-aggregate-compile-large-2 : tie.Need-slice-aggregate-compile-large-2
+slice-aggregate-compile-large-2 c = search needs
 
-walk-requires : tie.Need-walk-requires
-walk-requires c κs = (compiles.passed (c .before .before .before .before .before .before .before .before .before .before .before .before .before .checks .ensures) (c .before .before .before .before .before .before .before .before .before .before .before .enum-told .given .1) .good, c .before .before .before .before .before .before .before .before .find-lines .ensures)
+compile-large-requires : tie.Need-compile-large-requires
+compile-large-requires c κs = (compiles.passed (c .before .before .before .before .before .before .before .before .before .before .before .before .checks .ensures) (c .before .before .before .before .before .before .before .before .before .before .enum-told .given .1) .good, c .before .before .before .before .before .before .before .find-lines .ensures)
+
+returns-2 : tie.Need-returns-2
+returns-2 c = compiles.turned-away (c .before .before .before .checks .ensures) (c .before .before .before .before .before .before .before .args .out .now) (c .before .c .given .1)
 
 same-length-2 : tie.Need-same-length-2
 same-length-2 c = search needs
 
-returns-2 : tie.Need-returns-2
-returns-2 c = compiles.walked (c .before .before .before .before .before .before .before .before .before .before .before .before .before .before .before .before .checks .ensures) (c .before .before .before .before .before .before .before .before .before .before .before .before .before .before .enum-told .given .1) (c .before .before .walk .ensures)
-
-mul-if3 : tie.Need-mul-if3
-mul-if3 c = omega (arith, compiles.passed (c .before .before .before .before .before .before .before .before .before .checks .ensures) (c .before .before .before .before .before .before .before .enum-told .given .1) .good .few, c .before .span-count .ensures)
-
-slice-aggregate-walk-small-3 : tie.Need-slice-aggregate-walk-small-3
-slice-aggregate-walk-small-3 c = search needs
-
-slice-aggregate-walk-small-4 : tie.Need-slice-aggregate-walk-small-4
-slice-aggregate-walk-small-4 c = search needs
-
-walk-small-requires-2 : tie.Need-walk-small-requires-2
-walk-small-requires-2 c κs =
-    (compiles.passed (c .before .before .before .before .before .before .before .before .before .before .before .before .before .checks .ensures) (c .before .before .before .before .before .before .before .before .before .before .before .enum-told .given .1) .good, (c .before .before .before .before .before .before .before .before .find-lines .ensures, omega (arith, c .before .before .before .before .before .span-count .ensures, c .before .before .before .if3 .taken)))
-
-same-length-3 : tie.Need-same-length-3
-same-length-3 c = search needs
-
 returns-3 : tie.Need-returns-3
-returns-3 c = compiles.walked (c .before .before .before .before .before .before .before .before .before .before .before .before .before .before .before .before .checks .ensures) (c .before .before .before .before .before .before .before .before .before .before .before .before .before .before .enum-told .given .1) (c .before .before .walk-small2 .ensures)
-
-slice-aggregate-walk-3 : tie.Need-slice-aggregate-walk-3
-slice-aggregate-walk-3 c = search needs
-
-slice-aggregate-walk-4 : tie.Need-slice-aggregate-walk-4
-slice-aggregate-walk-4 c = search needs
-
-walk-requires-2 : tie.Need-walk-requires-2
-walk-requires-2 c κs = (compiles.passed (c .before .before .before .before .before .before .before .before .before .before .before .before .before .checks .ensures) (c .before .before .before .before .before .before .before .before .before .before .before .enum-told .given .1) .good, c .before .before .before .before .before .before .before .before .find-lines .ensures)
-
-returns-4 : tie.Need-returns-4
-returns-4 c = compiles.turned-away (c .before .before .before .checks .ensures) (c .before .before .before .before .before .before .before .args .out .now) (c .before .c .given .1)
-
-same-length-4 : tie.Need-same-length-4
-same-length-4 c = search needs
-
-returns-5 : tie.Need-returns-5
-returns-5 c = compiles.walked (c .before .before .before .before .before .before .before .before .before .before .before .before .before .before .before .before .checks .ensures) (c .before .before .before .before .before .before .before .before .before .before .before .before .before .before .enum-told .given .1) (c .before .before .walk2 .ensures)
+returns-3 c = compiles.walked (c .before .before .before .before .before .before .before .before .before .before .before .before .before .before .before .checks .ensures) (c .before .before .before .before .before .before .before .before .before .before .before .before .before .enum-told .given .1) (c .before .before .compile-large .ensures)
 
 pub compile2-spec : {M : Type 1} → statement M
 compile2-spec =
@@ -110,26 +75,15 @@ compile2-spec =
     slice-aggregate-find-lines-2
     find-lines-requires
     span-count-requires
-    mul-if2
-    slice-aggregate-walk-small
-    slice-aggregate-walk-small-2
-    walk-small-requires
+    mul-if1
+    slice-aggregate-compile-small
+    slice-aggregate-compile-small-2
+    compile-small-requires
     same-length
     returns
-    slice-aggregate-walk
-    slice-aggregate-walk-2
-    walk-requires
-    same-length-2
+    slice-aggregate-compile-large
+    slice-aggregate-compile-large-2
+    compile-large-requires
     returns-2
-    mul-if3
-    slice-aggregate-walk-small-3
-    slice-aggregate-walk-small-4
-    walk-small-requires-2
-    same-length-3
-    returns-3
-    slice-aggregate-walk-3
-    slice-aggregate-walk-4
-    walk-requires-2
-    returns-4
-    same-length-4
-    returns-5)
+    same-length-2
+    returns-3)

@@ -1,7 +1,8 @@
--- `template::list::write_element` meets its contract: by the element. Assumes nothing.
+-- `template::list::write_element` meets its contract: by the element; its numbers fit their types, so its place is short. Assumes nothing.
 use native.Mathlib.Omega.{arith}
 use borrow.Author.Needs.{needs}
 use Rattle.template.proofs.ElementWrites as elements
+use Rattle.template.proofs.ShortOpening as short
 use Rattle.template.proofs.list.write_element.Statement.{statement}
 use Rattle.template.proofs.list.write_element.Tie as tie
 
@@ -99,7 +100,7 @@ write-decorated-requires-4 c κs = search needs
 returns : tie.Need-returns
 returns c =
     let args = c .before .before .before .before .before .before .args in
-    elements.nothing-written (args .text .now) (args .words .now) (args .e) (c .enum-told .given .1) (omega arith)
+    (elements.nothing-written (args .text .now) (args .words .now) (args .e) (c .enum-told .given .1) (omega arith), short.opening-short _ _ (c .before .before .before .before .before .before .pre .0) (args .e) (short.place-small (args .e) _ (c .before .before .before .before .before .before .good .1 .1 .1 .1 .0)))
 
 same-length : tie.Need-same-length
 same-length c = search needs
@@ -109,7 +110,7 @@ returns-2 c =
     let args = c .before .before .before .before .before .before .before .before .before .before .before .args in
     let x = c .before .before .before .before .before .x in
     let write-text = c .before .before .write-text in
-    elements.text-written (args .text .now) (args .words .now) (args .e) (x .given .1) (write-text .ensures)
+    (elements.text-written (args .text .now) (args .words .now) (args .e) (x .given .1) (write-text .ensures), short.opening-short _ _ (c .before .before .before .before .before .before .before .before .before .before .before .pre .0) (args .e) (short.place-small (args .e) _ (c .before .before .before .before .before .before .before .before .before .before .before .good .1 .1 .1 .1 .0)))
 
 same-length-2 : tie.Need-same-length-2
 same-length-2 c = search needs
@@ -119,7 +120,7 @@ returns-3 c =
     let args = c .before .before .before .before .before .before .before .before .before .before .before .args in
     let x2 = c .before .before .before .before .before .x2 in
     let write-comment = c .before .before .write-comment in
-    elements.comment-written (args .text .now) (args .words .now) (args .e) (x2 .given .1) (write-comment .ensures)
+    (elements.comment-written (args .text .now) (args .words .now) (args .e) (x2 .given .1) (write-comment .ensures), short.opening-short _ _ (c .before .before .before .before .before .before .before .before .before .before .before .pre .0) (args .e) (short.place-small (args .e) _ (c .before .before .before .before .before .before .before .before .before .before .before .good .1 .1 .1 .1 .0)))
 
 same-length-3 : tie.Need-same-length-3
 same-length-3 c = search needs
@@ -129,7 +130,7 @@ returns-4 c =
     let args = c .before .before .before .before .before .before .before .before .before .before .before .before .args in
     let x3 = c .before .before .before .before .before .before .x3 in
     let write-expression = c .before .before .write-expression in
-    elements.expr-written (args .text .now) (args .words .now) (args .e) (x3 .given .1) (write-expression .ensures)
+    (elements.expr-written (args .text .now) (args .words .now) (args .e) (x3 .given .1) (write-expression .ensures), short.opening-short _ _ (c .before .before .before .before .before .before .before .before .before .before .before .before .pre .0) (args .e) (short.place-small (args .e) _ (c .before .before .before .before .before .before .before .before .before .before .before .before .good .1 .1 .1 .1 .0)))
 
 same-length-4 : tie.Need-same-length-4
 same-length-4 c = search needs
@@ -139,7 +140,7 @@ returns-5 c =
     let args = c .before .before .before .before .before .before .before .before .before .before .before .before .args in
     let x4 = c .before .before .before .before .before .before .x4 in
     let write-expression2 = c .before .before .write-expression2 in
-    elements.html-written (args .text .now) (args .words .now) (args .e) (x4 .given .1) (write-expression2 .ensures)
+    (elements.html-written (args .text .now) (args .words .now) (args .e) (x4 .given .1) (write-expression2 .ensures), short.opening-short _ _ (c .before .before .before .before .before .before .before .before .before .before .before .before .pre .0) (args .e) (short.place-small (args .e) _ (c .before .before .before .before .before .before .before .before .before .before .before .before .good .1 .1 .1 .1 .0)))
 
 same-length-5 : tie.Need-same-length-5
 same-length-5 c = search needs
@@ -149,7 +150,7 @@ returns-6 c =
     let args = c .before .before .before .before .before .before .before .before .before .before .before .args in
     let x5 = c .before .before .before .before .before .x5 in
     let write-block = c .before .before .write-block in
-    elements.block-written (args .text .now) (args .words .now) (args .e) (x5 .given .1) (write-block .ensures)
+    (elements.block-written (args .text .now) (args .words .now) (args .e) (x5 .given .1) (write-block .ensures), short.opening-short _ _ (c .before .before .before .before .before .before .before .before .before .before .before .pre .0) (args .e) (short.place-small (args .e) _ (c .before .before .before .before .before .before .before .before .before .before .before .good .1 .1 .1 .1 .0)))
 
 same-length-6 : tie.Need-same-length-6
 same-length-6 c = search needs
@@ -159,7 +160,7 @@ returns-7 c =
     let args = c .before .before .before .before .before .before .before .before .before .before .before .before .before .args in
     let x6 = c .before .before .before .before .before .before .before .x6 in
     let write-decorated = c .before .before .write-decorated in
-    elements.decor-written (args .text .now) (args .words .now) (args .e) (x6 .given .1) (write-decorated .ensures)
+    (elements.decor-written (args .text .now) (args .words .now) (args .e) (x6 .given .1) (write-decorated .ensures), short.opening-short _ _ (c .before .before .before .before .before .before .before .before .before .before .before .before .before .pre .0) (args .e) (short.place-small (args .e) _ (c .before .before .before .before .before .before .before .before .before .before .before .before .before .good .1 .1 .1 .1 .0)))
 
 same-length-7 : tie.Need-same-length-7
 same-length-7 c = search needs
@@ -169,7 +170,7 @@ returns-8 c =
     let args = c .before .before .before .before .before .before .before .before .before .before .before .before .before .args in
     let x7 = c .before .before .before .before .before .before .before .x7 in
     let write-decorated2 = c .before .before .write-decorated2 in
-    elements.partial-written (args .text .now) (args .words .now) (args .e) (x7 .given .1) (write-decorated2 .ensures)
+    (elements.partial-written (args .text .now) (args .words .now) (args .e) (x7 .given .1) (write-decorated2 .ensures), short.opening-short _ _ (c .before .before .before .before .before .before .before .before .before .before .before .before .before .pre .0) (args .e) (short.place-small (args .e) _ (c .before .before .before .before .before .before .before .before .before .before .before .before .before .good .1 .1 .1 .1 .0)))
 
 same-length-8 : tie.Need-same-length-8
 same-length-8 c = search needs
@@ -179,7 +180,7 @@ returns-9 c =
     let args = c .before .before .before .before .before .before .before .before .before .before .before .before .before .args in
     let x8 = c .before .before .before .before .before .before .before .x8 in
     let write-decorated3 = c .before .before .write-decorated3 in
-    elements.decor-block-written (args .text .now) (args .words .now) (args .e) (x8 .given .1) (write-decorated3 .ensures)
+    (elements.decor-block-written (args .text .now) (args .words .now) (args .e) (x8 .given .1) (write-decorated3 .ensures), short.opening-short _ _ (c .before .before .before .before .before .before .before .before .before .before .before .before .before .pre .0) (args .e) (short.place-small (args .e) _ (c .before .before .before .before .before .before .before .before .before .before .before .before .before .good .1 .1 .1 .1 .0)))
 
 same-length-9 : tie.Need-same-length-9
 same-length-9 c = search needs
@@ -189,7 +190,7 @@ returns-10 c =
     let args = c .before .before .before .before .before .before .before .before .before .before .before .before .before .args in
     let x9 = c .before .before .before .before .before .before .before .x9 in
     let write-decorated4 = c .before .before .write-decorated4 in
-    elements.partial-block-written (args .text .now) (args .words .now) (args .e) (x9 .given .1) (write-decorated4 .ensures)
+    (elements.partial-block-written (args .text .now) (args .words .now) (args .e) (x9 .given .1) (write-decorated4 .ensures), short.opening-short _ _ (c .before .before .before .before .before .before .before .before .before .before .before .before .before .pre .0) (args .e) (short.place-small (args .e) _ (c .before .before .before .before .before .before .before .before .before .before .before .before .before .good .1 .1 .1 .1 .0)))
 
 pub write-element-spec : {M : Type 1} → statement M
 write-element-spec =

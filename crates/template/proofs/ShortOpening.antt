@@ -1,6 +1,6 @@
--- How long a listing is: each element of the store takes at most 12,000,000,000 bytes, so that 8,193 of them stay far below the largest
--- position. Places are short since their numbers fit their type. Assumes nothing.
-use Prim.Native.Nat.{ℕ, zero, suc, _+_, _*_, _≤_, _<_}
+-- How long an element's opening is: at most 11,000,000,000 bytes, so that a listing stays far below the largest position. Places are
+-- short since their numbers fit their type. Assumes nothing.
+use Prim.Native.Nat.{ℕ, _+_, _≤_, _<_}
 use native.Mathlib.Omega.{arith}
 use mathlib.Core.Path.{_≡_, refl, ap}
 use mathlib.Core.List.{List, [], _∷_, _++_}
@@ -9,7 +9,6 @@ use mathlib.Core.Option.{none, some}
 use lib.Dec.{eqb}
 use lib.ListN.{length, take, length-append}
 use mir.Val.{Val}
-use denote.Array.{each}
 use denote.Shadow.{shadow}
 use denote.Struct.Declared.{row}
 use Rattle.support.specs.Bytes.{Bytes, ascii, if}
@@ -18,13 +17,11 @@ use Rattle.support.specs.TextRules.{trailingBlanks}
 use Rattle.support.specs.declared.position.Place as code
 use Rattle.listing.specs.Quoted.{digits, decimal, quoted}
 use Rattle.listing.specs.Form.{Word, spell, place, writeField, writeHead, writeFields, nil, writeForm, writeForms}
-use Rattle.listing.specs.Tree.{Elem, item, block, wrap, Body, end, then, Else, noElse, else}
-use Rattle.listing.specs.Listing.{bit, placeField, indentField, callForms, itemForm, elemForm, bodyForms, elseForms, write}
+use Rattle.listing.specs.Listing.{bit, placeField, indentField, callForms, itemForm}
 use Rattle.listing.specs.Children.{decoratorChildren, helperChildren}
 use Rattle.template.specs.Step.{anyBlanks}
 use Rattle.template.specs.Element.{Good, placeMeans, linkOf, rawMeans, commentMeans, callAt, indentMeans, itemMeans, headMeans, wrapMeans, roleOf}
 use Rattle.template.specs.Opening.{wrapOpening, decoratedBytes, openingBy, opening}
-use Rattle.template.specs.Store.{elementAt, Chain, Node, ElseAt, Holds}
 use Rattle.template.specs.declared.element.HelperTemplate.{HelperTemplate}
 use Rattle.template.specs.declared.element.DecoratorTemplate.{DecoratorTemplate}
 use Rattle.template.specs.declared.element.TemplateElement.{TemplateElement}
@@ -32,8 +29,6 @@ use Rattle.template.specs.declared.element.TemplateElement.the-variants 
 use Rattle.template.specs.declared.element.Element.{Element}
 use Rattle.template.proofs.element.Element.{the-type}
 use Rattle.template.proofs.ElementWrites.{head-one, text-bytes, comment-bytes, block-bytes, decorated-bytes}
-use Rattle.template.proofs.Lister.{bodyBytes, leaf-bytes, block-node, wrap-node}
-use Rattle.template.proofs.ListAnswers.{longest}
 use Rattle.template.proofs.ShortTexts.{comment-short, raw-short, blanks-short, quoted-short, decimal-short}
 use Rattle.template.proofs.ShortExpressions.{decorator-short, helper-short}
 
@@ -43,14 +38,10 @@ pub record SmallPlace (p : code.Place) : Type 0 where
   pub line : p .line < 0x100000000
   pub column : p .column < 0x100000000
 
-pub places-small : (xs : List Element) (us : List Val) → shadow (each Element (row the-type .own) xs us) → (i : ℕ) → SmallPlace (elementAt xs i .place)
-places-small [] [] s i = record { line = omega arith; column = omega arith }
-places-small [] (u ∷ us) s i = absurd s
-places-small (x ∷ xs) [] s i = absurd s
-places-small (x ∷ xs) (u ∷ us) s zero =
-    let p = s .0 .1 .1 .1 .1 .0 .1 .1 in
+pub place-small : (x : Element) (us : List Val) → shadow (row the-type .own x us) → SmallPlace (x .place)
+place-small x us s =
+    let p = s .1 .1 .1 .1 .0 .1 .1 in
     record { line = p .0 .1; column = p .1 .0 .1 }
-places-small (x ∷ xs) (u ∷ us) s (suc i) = places-small xs us (s .1) i
 
 -- ---- fields
 
@@ -185,65 +176,5 @@ module _ (text : Bytes) (words : List ℕ) (good : Good text words) where
   by-short (E.DecoratorBlock d) p c h = let e = wrapped-short Word.decorBlock p d (ascii "[body\n") h (omega arith) in omega arith
   by-short (E.PartialBlock d) p c h = let e = wrapped-short Word.partialBlock p d (ascii "[body\n") h (omega arith) in omega arith
 
-  opening-short : (e : Element) → SmallPlace (e .place) → length (opening text words e) ≤ 11000000000
+  pub opening-short : (e : Element) → SmallPlace (e .place) → length (opening text words e) ≤ 11000000000
   opening-short e h = by-short (e .element) (e .place) (e .chain) h
-
-  -- ---- a body
-
-  module _ (st : List Element) (small : (i : ℕ) → SmallPlace (elementAt st i .place)) where
-    mutual
-      unfolding bodyForms writeForm writeHead writeFields
-
-      chain-short : (b : Body) (p l z lo hi : ℕ) → lo ≤ hi → Chain text words st p l z lo hi b → length (bodyBytes b) + 12000000000 * lo ≤ 12000000000 * hi
-      chain-short end p l z lo hi h c = omega arith
-      chain-short (then e r) p l z lo hi h c =
-          let x = node-short e l (c .0) (c .2) (c .4) in
-          let y = chain-short r l (elementAt st l .next) z (c .0) hi (c .3) (c .5) in
-          omega (arith, length-append (writeForm (elemForm e)) (bodyBytes r), c .1)
-
-      node-short : (e : Elem) (l m : ℕ) → l < m → Node text words st l m e → length (writeForm (elemForm e)) + 12000000000 * l ≤ 12000000000 * m
-      node-short (item p x) l m h c =
-          let e = ap length (leaf-bytes text words st c) in
-          omega (arith, opening-short (elementAt st l) (small l))
-      node-short (block p v g b x) l m h c =
-          let e = ap length (block-node text words st (c .3) (c .4) b x) in
-          let o = opening text words (elementAt st l) in
-          let y = chain-short b 0 (elementAt st l .template) (c .5 .0) (l + 1) (c .0) (omega (arith, c .1)) (c .5 .1) in
-          let z = else-short x (elementAt st l .inverted) (elementAt st l .inverse) (c .0) m (c .2) (c .6) in
-          omega (
-            arith,
-            pieces o (bodyBytes b) (ascii "]\n") (writeForms (elseForms x) ++ ascii "]\n"),
-            length-append (writeForms (elseForms x)) (ascii "]\n"),
-            opening-short (elementAt st l) (small l),
-          )
-      node-short (wrap p w b) l m h c =
-          let e = ap length (wrap-node text words st (c .0) b) in
-          let o = opening text words (elementAt st l) in
-          let y = chain-short b 0 (elementAt st l .template) (c .2 .0) (l + 1) m (omega arith) (c .2 .1) in
-          omega (
-            arith,
-            pieces o (bodyBytes b) (ascii "]\n") (writeForms (elseForms noElse) ++ ascii "]\n"),
-            opening-short (elementAt st l) (small l),
-          )
-
-      else-short : (x : Else) (h : Bool) (l lo hi : ℕ) → lo ≤ hi → ElseAt text words st h l lo hi x
-          → length (writeForms (elseForms x)) + 12000000000 * lo ≤ 12000000000 * hi + 8
-      else-short noElse h l lo hi g c = omega arith
-      else-short (else b) h l lo hi g c =
-          let y = chain-short b 0 l (c .0) lo hi g (c .2) in
-          omega (arith, length-append (bodyBytes b) (ascii "]\n"), length-append (bodyBytes b ++ ascii "]\n") [])
-
-    -- the whole listing
-    pub listing-short : length st ≤ 8193 → {first : ℕ} {b : Body} → Holds text words st first b → length (write b) ≤ longest
-    unfolding write bodyForms writeForm writeHead writeFields
-    listing-short most {first} {b} h = go (h .len) (omega (arith, h .few, most)) (h .chain)
-      where
-        go : (n : ℕ) → n ≤ 8193 → Chain text words st 0 first (h .last) 1 n b → length (write b) ≤ longest
-        go zero g c = none b c
-          where
-            none : (b : Body) → Chain text words st 0 first (h .last) 1 0 b → length (write b) ≤ longest
-            none end c = omega arith
-            none (then e r) c = absurd (omega (arith, c .1, c .2, c .3))
-        go (suc n) g c =
-            let y = chain-short b 0 first (h .last) 1 (suc n) (omega arith) c in
-            omega (arith, length-append (bodyBytes b) (ascii "]\n"))
