@@ -16,7 +16,6 @@ ghost use Rattle.json_path.specs.Span.{spanCount};
 ghost use Rattle.template.specs.Compile.{answer};
 ghost use Rattle.template.specs.Answers.{AnswerIs};
 ghost use Rattle.template.specs.Element.{Good};
-ghost use Rattle.template.specs.Lines.{LinesAre};
 ghost use Rattle.template.specs.Finish.{walkAnswer};
 
 // The listing's length, or a number from 1 to 14 and a place.
@@ -29,10 +28,10 @@ impl Answer {
     // How many bytes the buffers have.
     pub const BUFFER: usize = 65536;
 
-    pub const SMALL: usize = 32768;
+    pub const SMALL: usize = 8192;
 }
 
-// The first `n` bytes.
+// Copies the first `n` bytes.
 fn copy_front(out: &mut [u8], bytes: &[u8], n: usize)
     requires { ⌜ (n ≤ length (now out)) × (n ≤ length (now bytes)) ⌝ }
     ensures { λ r. ⌜ now (out .exit) ≡ paste (now (out .entry)) 0 (now (bytes .entry)) n ⌝ }
@@ -46,19 +45,15 @@ fn copy_front(out: &mut [u8], bytes: &[u8], n: usize)
 
 // The tree is listed into a buffer, since the output stays as it was if the listing is too long for it. A
 // listing that is longer than the buffer and fits the output is made again, there.
-fn compile_large(
-    text: &[u8],
-    starts: &[bool],
-    ends: &[bool],
-    words: &[u32],
-    o: Options,
-    out: &mut [u8],
-) -> Answer
-    requires { ⌜ Good (now text) (now words) ⌝ ∗ ⌜ LinesAre (now text) (now starts) (now ends) ⌝ }
+fn compile_large(text: &[u8], words: &[u32], o: Options, out: &mut [u8]) -> Answer
+    requires { ⌜ Good (now text) (now words) ⌝ }
     ensures { λ r. ⌜ AnswerIs (walkAnswer (now (text .entry)) (now (words .entry)) o (length (now (out .entry)))) (now (out .entry)) (now (out .exit)) r ⌝ }
 {
+    let mut starts = [false; Marks::TEXT + 1];
+    let mut ends = [false; Marks::TEXT + 1];
+    find_lines(text, &mut starts, &mut ends);
     let mut buffer = [0u8; Answer::BUFFER];
-    let a = walk(text, starts, ends, words, o, &mut buffer);
+    let a = walk(text, &starts, &ends, words, o, &mut buffer);
     match a {
         Answer::Refused(number, place) => Answer::Refused(number, place),
         Answer::Listed(n) => {
@@ -66,7 +61,7 @@ fn compile_large(
                 return Answer::Refused(14, n);
             }
             if Answer::BUFFER < n {
-                return walk(text, starts, ends, words, o, out);
+                return walk(text, &starts, &ends, words, o, out);
             }
             copy_front(out, &buffer, n);
             Answer::Listed(n)
@@ -75,19 +70,40 @@ fn compile_large(
 }
 
 // The same for at most 320 spans.
-fn compile_small(
-    text: &[u8],
-    starts: &[bool],
-    ends: &[bool],
-    words: &[u32],
-    o: Options,
-    out: &mut [u8],
-) -> Answer
-    requires { ⌜ Good (now text) (now words) ⌝ ∗ ⌜ LinesAre (now text) (now starts) (now ends) ⌝ ∗ ⌜ 2 * spanCount (now words) < 641 ⌝ }
+fn compile_few(text: &[u8], words: &[u32], o: Options, out: &mut [u8]) -> Answer
+    requires { ⌜ Good (now text) (now words) ⌝ ∗ ⌜ 2 * spanCount (now words) < 641 ⌝ }
     ensures { λ r. ⌜ AnswerIs (walkAnswer (now (text .entry)) (now (words .entry)) o (length (now (out .entry)))) (now (out .entry)) (now (out .exit)) r ⌝ }
 {
+    let mut starts = [false; Marks::TEXT + 1];
+    let mut ends = [false; Marks::TEXT + 1];
+    find_lines(text, &mut starts, &mut ends);
+    let mut buffer = [0u8; Answer::BUFFER];
+    let a = walk_small(text, &starts, &ends, words, o, &mut buffer);
+    match a {
+        Answer::Refused(number, place) => Answer::Refused(number, place),
+        Answer::Listed(n) => {
+            if out.len() < n {
+                return Answer::Refused(14, n);
+            }
+            if Answer::BUFFER < n {
+                return walk_small(text, &starts, &ends, words, o, out);
+            }
+            copy_front(out, &buffer, n);
+            Answer::Listed(n)
+        }
+    }
+}
+
+// The same, with a short text as well: to fill long arrays would take a tenth of the whole time.
+fn compile_small(text: &[u8], words: &[u32], o: Options, out: &mut [u8]) -> Answer
+    requires { ⌜ Good (now text) (now words) ⌝ ∗ ⌜ 2 * spanCount (now words) < 641 ⌝ ∗ ⌜ length (now text) ≤ 2048 ⌝ }
+    ensures { λ r. ⌜ AnswerIs (walkAnswer (now (text .entry)) (now (words .entry)) o (length (now (out .entry)))) (now (out .entry)) (now (out .exit)) r ⌝ }
+{
+    let mut starts = [false; Marks::SHORT + 1];
+    let mut ends = [false; Marks::SHORT + 1];
+    find_lines(text, &mut starts, &mut ends);
     let mut buffer = [0u8; Answer::SMALL];
-    let a = walk_small(text, starts, ends, words, o, &mut buffer);
+    let a = walk_small(text, &starts, &ends, words, o, &mut buffer);
     match a {
         Answer::Refused(number, place) => Answer::Refused(number, place),
         Answer::Listed(n) => {
@@ -95,7 +111,7 @@ fn compile_small(
                 return Answer::Refused(14, n);
             }
             if Answer::SMALL < n {
-                return walk_small(text, starts, ends, words, o, out);
+                return walk_small(text, &starts, &ends, words, o, out);
             }
             copy_front(out, &buffer, n);
             Answer::Listed(n)
@@ -112,18 +128,18 @@ pub fn compile2(text: &[u8], spans: &[u32], options: u32, out: &mut [u8]) -> Ans
     match c {
         Checked::Refused(r) => Answer::Refused(r.number, r.place),
         Checked::Good => {
-            let mut starts = [false; Marks::TEXT + 1];
-            let mut ends = [false; Marks::TEXT + 1];
-            find_lines(text, &mut starts, &mut ends);
             let o = Options {
                 prevent_indent: options % 2 == 1,
                 is_partial: options / 2 % 2 == 1,
             };
             let count = span_count(spans);
-            if 2 * count < Element::SMALL {
-                return compile_small(text, &starts, &ends, spans, o, out);
+            if Element::SMALL <= 2 * count {
+                return compile_large(text, spans, o, out);
             }
-            compile_large(text, &starts, &ends, spans, o, out)
+            if Marks::SHORT < text.len() {
+                return compile_few(text, spans, o, out);
+            }
+            compile_small(text, spans, o, out)
         }
     }
 }

@@ -42,6 +42,9 @@ pub enum Checked {
 impl Marks {
     // How many bytes a text may have.
     pub const TEXT: usize = 16384;
+
+    // How many a short one has at most.
+    pub const SHORT: usize = 2048;
 }
 
 fn bad_span(text: &[u8], s: Span) -> bool

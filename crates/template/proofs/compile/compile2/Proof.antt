@@ -14,55 +14,42 @@ enum-known-c c = search needs
 enum-told : tie.Need-enum-told
 enum-told c = search needs
 
-slice-aggregate-find-lines : tie.Need-slice-aggregate-find-lines
-slice-aggregate-find-lines c = search needs
-
-slice-aggregate-find-lines-2 : tie.Need-slice-aggregate-find-lines-2
-slice-aggregate-find-lines-2 c = search needs
-
-find-lines-requires : tie.Need-find-lines-requires
-find-lines-requires c κs =
-    let short = compiles.passed (c .before .before .before .before .checks .ensures) (c .before .before .enum-told .given .1) .good .short in
-    (omega (arith, short), omega (arith, short))
-
 span-count-requires : tie.Need-span-count-requires
 span-count-requires c κs = search needs
 
 mul-if1 : tie.Need-mul-if1
 mul-if1 c = search needs
 
-slice-aggregate-compile-small : tie.Need-slice-aggregate-compile-small
-slice-aggregate-compile-small c = search needs
-
-slice-aggregate-compile-small-2 : tie.Need-slice-aggregate-compile-small-2
-slice-aggregate-compile-small-2 c = search needs
-
-compile-small-requires : tie.Need-compile-small-requires
-compile-small-requires c κs = (compiles.passed (c .before .before .before .before .before .before .before .before .before .before .before .before .checks .ensures) (c .before .before .before .before .before .before .before .before .before .before .enum-told .given .1) .good, (c .before .before .before .before .before .before .before .find-lines .ensures, omega (arith, c .before .before .before .before .span-count .ensures, c .before .before .before .if1 .taken)))
+compile-large-requires : tie.Need-compile-large-requires
+compile-large-requires c κs = compiles.passed (c .before .before .before .before .before .checks .ensures) (c .before .before .before .enum-told .given .1) .good
 
 same-length : tie.Need-same-length
 same-length c = search needs
 
 returns : tie.Need-returns
-returns c = compiles.walked (c .before .before .before .before .before .before .before .before .before .before .before .before .before .before .before .checks .ensures) (c .before .before .before .before .before .before .before .before .before .before .before .before .before .enum-told .given .1) (c .before .before .compile-small .ensures)
+returns c = compiles.walked (c .before .before .before .before .before .before .before .before .checks .ensures) (c .before .before .before .before .before .before .enum-told .given .1) (c .before .before .compile-large .ensures)
 
-slice-aggregate-compile-large : tie.Need-slice-aggregate-compile-large
-slice-aggregate-compile-large c = search needs
-
-slice-aggregate-compile-large-2 : tie.Need-slice-aggregate-compile-large-2
-slice-aggregate-compile-large-2 c = search needs
-
-compile-large-requires : tie.Need-compile-large-requires
-compile-large-requires c κs = (compiles.passed (c .before .before .before .before .before .before .before .before .before .before .before .before .checks .ensures) (c .before .before .before .before .before .before .before .before .before .before .enum-told .given .1) .good, c .before .before .before .before .before .before .before .find-lines .ensures)
-
-returns-2 : tie.Need-returns-2
-returns-2 c = compiles.turned-away (c .before .before .before .checks .ensures) (c .before .before .before .before .before .before .before .args .out .now) (c .before .c .given .1)
+compile-few-requires : tie.Need-compile-few-requires
+compile-few-requires c κs = (compiles.passed (c .before .before .before .before .before .before .checks .ensures) (c .before .before .before .before .enum-told .given .1) .good, omega (arith, c .before .before .before .span-count .ensures, c .before .before .if1 .left))
 
 same-length-2 : tie.Need-same-length-2
 same-length-2 c = search needs
 
+returns-2 : tie.Need-returns-2
+returns-2 c = compiles.walked (c .before .before .before .before .before .before .before .before .before .checks .ensures) (c .before .before .before .before .before .before .before .enum-told .given .1) (c .before .before .compile-few .ensures)
+
+compile-small-requires : tie.Need-compile-small-requires
+compile-small-requires c κs =
+    (compiles.passed (c .before .before .before .before .before .before .checks .ensures) (c .before .before .before .before .enum-told .given .1) .good, (omega (arith, c .before .before .before .span-count .ensures, c .before .before .if1 .left), omega (arith, c .before .if2 .left)))
+
 returns-3 : tie.Need-returns-3
-returns-3 c = compiles.walked (c .before .before .before .before .before .before .before .before .before .before .before .before .before .before .before .checks .ensures) (c .before .before .before .before .before .before .before .before .before .before .before .before .before .enum-told .given .1) (c .before .before .compile-large .ensures)
+returns-3 c = compiles.turned-away (c .before .before .before .checks .ensures) (c .before .before .before .before .before .before .before .args .out .now) (c .before .c .given .1)
+
+same-length-3 : tie.Need-same-length-3
+same-length-3 c = search needs
+
+returns-4 : tie.Need-returns-4
+returns-4 c = compiles.walked (c .before .before .before .before .before .before .before .before .before .checks .ensures) (c .before .before .before .before .before .before .before .enum-told .given .1) (c .before .before .compile-small .ensures)
 
 pub compile2-spec : {M : Type 1} → statement M
 compile2-spec =
@@ -71,19 +58,15 @@ compile2-spec =
     checks-requires
     enum-known-c
     enum-told
-    slice-aggregate-find-lines
-    slice-aggregate-find-lines-2
-    find-lines-requires
     span-count-requires
     mul-if1
-    slice-aggregate-compile-small
-    slice-aggregate-compile-small-2
-    compile-small-requires
+    compile-large-requires
     same-length
     returns
-    slice-aggregate-compile-large
-    slice-aggregate-compile-large-2
-    compile-large-requires
-    returns-2
+    compile-few-requires
     same-length-2
-    returns-3)
+    returns-2
+    compile-small-requires
+    returns-3
+    same-length-3
+    returns-4)
