@@ -2,8 +2,9 @@
 """The stored cards of replay_cards and their answers, by document 01's model in model.py.
 
 crates/replay_cards/stdin has each card behind a line with its length: first those of examples/, in the order of their
-names, then the others that are stored there already. This writes it again, so that a new example is run by the gate,
-and writes crates/replay_cards/stdout. It also holds docs/GUIDE.md to the model: each text and listing that the page
+names, then some whose listings are as long as a buffer of the port or differ from that by a byte, then the others that
+are stored there already. This writes it again, so that a new example is run by the gate, and writes
+crates/replay_cards/stdout. It also holds docs/GUIDE.md to the model: each text and listing that the page
 shows of an example, and each answer of its table.
 """
 import os
@@ -17,6 +18,8 @@ EXAMPLES = os.path.join(ROOT, "examples")
 GUIDE = os.path.join(ROOT, "docs", "GUIDE.md")
 CARD = re.compile(rb"([0-9]{1,5})\n((?:[0-9]{1,5} [0-9]{1,5} [0-9]{1,5}\n)*)\n", re.A)
 SHORT = 256
+LONG = 4096
+ROOM = 65536
 
 
 def cards(data):
@@ -28,18 +31,50 @@ def cards(data):
         at = end + 1 + length
 
 
-def listed(card):
+def listed(card, room=ROOM):
     m = CARD.match(card)
     if not m or len(card) > 65536:
         return b"refused 15 at 0\n"
-    return model.answer(int(m[1]), [int(w) for w in m[2].split()], card[m.end() :])
+    return model.answer(int(m[1]), [int(w) for w in m[2].split()], card[m.end() :], room)
+
+
+def shown(listing):
+    if len(listing) <= LONG:
+        return listing
+    total = 0
+    for byte in listing:
+        total = (total * 31 + byte) % 1000003
+    return b"a listing of %d bytes with sum %d\n" % (len(listing), total)
 
 
 def answer(card):
     out = listed(card)
+    if out.startswith(b"refused 14 "):
+        return out + shown(listed(card, 2 * ROOM))
     # a short listing is run again with every room from 0 to 3 past it
     rooms = b"rooms %d\n" % (len(out) + 4) if not out.startswith(b"refused") and len(out) <= SHORT else b""
-    return out + rooms
+    return shown(out) + rooms
+
+
+def with_listing(length, expressions):
+    """a card with so many expressions, each named by most of the text, and a listing of this length"""
+
+    def card(name, more):
+        spans = [(1, 0, 0)] + expressions * [(11, 0, 0), (21, 0, name)]
+        return b"0\n" + b"".join(b"%d %d %d\n" % span for span in spans) + b"\n" + b"x" * name + b"y" * more
+
+    # a byte of the name is listed with every expression and in the text behind them, a byte more only there
+    name, more = divmod(length - len(listed(card(0, 1), length)) + 1, expressions + 1)
+    made = card(name, more)
+    assert len(listed(made, length)) == length, length
+    return made
+
+
+def edges():
+    """few spans and a short text, few spans and a long one, many spans"""
+    for buffer, expressions in (8192, 40), (65536, 20), (65536, 200):
+        for length in buffer - 1, buffer, buffer + 1:
+            yield with_listing(length, expressions)
 
 
 def examples():
@@ -66,9 +101,9 @@ def check_guide(cards_by_name):
 
 def main():
     first = dict(examples())
+    made = list(first.values()) + list(edges())
     with open(os.path.join(REPLAY, "stdin"), "rb") as f:
-        others = [card for card in cards(f.read()) if card not in first.values()]
-    every = list(first.values()) + others
+        every = made + [card for card in cards(f.read()) if card not in made]
     with open(os.path.join(REPLAY, "stdin"), "wb") as f:
         f.write(b"".join(b"%d\n" % len(card) + card for card in every))
     out = b"".join(b"card %d\n" % k + answer(card) for k, card in enumerate(every))

@@ -8,6 +8,7 @@ KIND  good     text and span list made together, in the order in which a parser 
       damaged  good ones with one to three changes of a span, the text or the options
       weird    lists that are pairs, but that no parser makes
       deep     around the limits on open blocks and on subexpressions
+      long     long listings, of many tags around the size of the port's larger buffer, 65,536 bytes
 Form of a record: README.md.
 """
 import random
@@ -922,7 +923,28 @@ def weird(rng):
             return c
 
 
-KINDS = {"good": good, "damaged": damaged, "weird": weird, "deep": deep}
+def long(rng):
+    w = Writer()
+    root = w.open(1)
+    # few tags and a short text, few and a long one, many
+    tags, quotes = rng.choice([(70, 1400), (70, 15000), (1000, 8000)])
+    tags = rng.randrange(tags * 3 // 4, tags + 1)
+    quotes = rng.randrange(quotes * 3 // 4, quotes + 1)
+    name = rng.choice(["a", "b/c"])
+    for k in range(tags):
+        x = w.open(11)
+        w.put("{{")
+        ref = w.open(26)
+        w.leaf(39, name)
+        w.close(ref)
+        w.put("}}")
+        w.close(x)
+        w.leaf(2, '"' * (quotes // tags))
+    w.close(root)
+    return 0, [v for s in w.s for v in s], bytes(w.t)
+
+
+KINDS = {"good": good, "damaged": damaged, "weird": weird, "deep": deep, "long": long}
 
 
 def main():

@@ -1,7 +1,8 @@
 // Reads stored cards from standard input, each behind a line with its length, and writes what
 // `compile2` answers to each. Cards with a short listing are run again with every room from 0 to past
 // their listing: a refused call must leave the output as it was, and an accepted one must change only
-// what its listing fills. The answers are compared with those of tools/cards.
+// what its listing fills. A listing that is too long for `cardtree` is made once more with room for twice
+// as much. The answers are compared with those of tools/cards.
 use card::number::read_digits;
 use card::read::Card;
 use card::read::CardRead;
@@ -9,6 +10,7 @@ use card::read::read_card;
 use card::stored::line_at;
 use libc::STDIN_FILENO;
 use libc::STDOUT_FILENO;
+use support::bytes::byte_at;
 use support::bytes::part;
 use support::bytes::same_bytes;
 use template::compile::Answer;
@@ -21,6 +23,9 @@ const CANARY: u8 = 0xA5;
 
 // The longest listing that is run with every room.
 const SHORT: usize = 256;
+
+// The longest that is shown whole.
+const LONG: usize = 4096;
 
 fn show(bytes: &[u8]) {
     io::write_all(STDOUT_FILENO, bytes);
@@ -76,6 +81,31 @@ fn good_room(text: &[u8], words: &[u32], options: u32, listing: &[u8], room: usi
     }
 }
 
+// A number that tells one listing from another.
+fn sum_of(bytes: &[u8]) -> usize {
+    let mut sum: usize = 0;
+    let mut i = 0;
+    while i < bytes.len() {
+        let b = byte_at(bytes, i);
+        sum = (sum * 31 + b as usize) % 1000003;
+        i += 1;
+    }
+    sum
+}
+
+// A listing, or its length and sum.
+fn show_listing(listing: &[u8]) {
+    if listing.len() <= LONG {
+        show(listing);
+        return;
+    }
+    show(b"a listing of ");
+    show_number(listing.len());
+    show(b" bytes with sum ");
+    show_number(sum_of(listing));
+    show(b"\n");
+}
+
 // How many rooms from 0 to past the listing are answered as they should be.
 fn show_rooms(text: &[u8], words: &[u32], options: u32, listing: &[u8]) {
     if SHORT < listing.len() {
@@ -92,15 +122,35 @@ fn show_rooms(text: &[u8], words: &[u32], options: u32, listing: &[u8]) {
     show(b"\n");
 }
 
+// The answer with room for twice as much.
+fn show_longer(text: &[u8], words: &[u32], options: u32) {
+    let mut out = [CANARY; 131072];
+    let a = compile2(text, words, options, &mut out);
+    match a {
+        Answer::Listed(n) => {
+            show_listing(part(&out, 0, n));
+            if !untouched(part(&out, n, out.len())) {
+                show(b"and more was written\n");
+            }
+        }
+        Answer::Refused(number, place) => show_refusal(number as usize, place),
+    }
+}
+
 fn show_answer(text: &[u8], words: &[u32], options: u32) {
     let mut out = [0u8; 65536];
     let a = compile2(text, words, options, &mut out);
     match a {
         Answer::Listed(n) => {
-            show(part(&out, 0, n));
+            show_listing(part(&out, 0, n));
             show_rooms(text, words, options, part(&out, 0, n));
         }
-        Answer::Refused(number, place) => show_refusal(number as usize, place),
+        Answer::Refused(number, place) => {
+            show_refusal(number as usize, place);
+            if number == 14 {
+                show_longer(text, words, options);
+            }
+        }
     }
 }
 
