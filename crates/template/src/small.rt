@@ -148,6 +148,7 @@ pub(crate) fn walk_small(
             }
         }
     }
+    // The text that is left.
     let rest = rest_of(text, words, marks, here);
     let rg = take_gap(marks.end_pos < text.len(), rest, len);
     let rm = rg.made;
@@ -158,6 +159,7 @@ pub(crate) fn walk_small(
     let rz = rj.last;
     elements[rl] = rz;
     let rt = rj.top;
+    // The listing.
     let mut waiting = [Waiting::EMPTY; Element::SMALL];
     let mut p = put_bytes(out, 0, b"[template\n");
     let mut link = rt.first;

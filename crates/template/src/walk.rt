@@ -217,6 +217,7 @@ pub(crate) fn walk(
             }
         }
     }
+    // The text that is left.
     let rest = rest_of(text, words, marks, here);
     let rg = take_gap(marks.end_pos < text.len(), rest, len);
     let rm = rg.made;
@@ -227,6 +228,7 @@ pub(crate) fn walk(
     let rz = rj.last;
     elements[rl] = rz;
     let rt = rj.top;
+    // The listing.
     let mut waiting = [Waiting::EMPTY; Element::LIMIT];
     let mut p = put_bytes(out, 0, b"[template\n");
     let mut link = rt.first;
