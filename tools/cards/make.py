@@ -50,7 +50,7 @@ def shown(listing):
 def answer(card):
     out = listed(card)
     if out.startswith(b"refused 14 "):
-        return out + shown(listed(card, 2 * ROOM))
+        return out + shown(listed(card, 4 * ROOM))
     # a short listing is run again with every room from 0 to 3 past it
     rooms = b"rooms %d\n" % (len(out) + 4) if not out.startswith(b"refused") and len(out) <= SHORT else b""
     return shown(out) + rooms
@@ -72,7 +72,7 @@ def with_listing(length, expressions):
 
 def edges():
     """few spans and a short text, few spans and a long one, many spans"""
-    for buffer, expressions in (8192, 40), (65536, 20), (65536, 200):
+    for buffer, expressions in (16384, 40), (65536, 20), (131072, 200):
         for length in buffer - 1, buffer, buffer + 1:
             yield with_listing(length, expressions)
 

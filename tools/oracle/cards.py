@@ -8,7 +8,7 @@ KIND  good     text and span list made together, in the order in which a parser 
       damaged  good ones with one to three changes of a span, the text or the options
       weird    lists that are pairs, but that no parser makes
       deep     around the limits on open blocks and on subexpressions
-      long     long listings, of many tags around the size of the port's larger buffer, 65,536 bytes
+      long     long listings, of up to 72,000 bytes
 Form of a record: README.md.
 """
 import random

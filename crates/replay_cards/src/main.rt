@@ -1,8 +1,8 @@
 // Reads stored cards from standard input, each behind a line with its length, and writes what
 // `compile2` answers to each. Cards with a short listing are run again with every room from 0 to past
 // their listing: a refused call must leave the output as it was, and an accepted one must change only
-// what its listing fills. A listing that is too long for `cardtree` is made once more with room for twice
-// as much. The answers are compared with those of tools/cards.
+// what its listing fills. A listing that is too long for `cardtree` is made once more with room for four
+// times as much. The answers are compared with those of tools/cards.
 use card::number::read_digits;
 use card::read::Card;
 use card::read::CardRead;
@@ -122,9 +122,9 @@ fn show_rooms(text: &[u8], words: &[u32], options: u32, listing: &[u8]) {
     show(b"\n");
 }
 
-// The answer with room for twice as much.
+// The answer with room for four times as much.
 fn show_longer(text: &[u8], words: &[u32], options: u32) {
-    let mut out = [CANARY; 131072];
+    let mut out = [CANARY; 262144];
     let a = compile2(text, words, options, &mut out);
     match a {
         Answer::Listed(n) => {

@@ -25,10 +25,12 @@ pub enum Answer {
 }
 
 impl Answer {
-    // How many bytes the buffers have.
-    pub const BUFFER: usize = 65536;
+    // How many bytes the buffers have: more than the listing of a card that a parser makes.
+    pub const LARGE: usize = 131072;
 
-    pub const SMALL: usize = 8192;
+    pub const FEW: usize = 65536;
+
+    pub const SMALL: usize = 16384;
 }
 
 // Copies the first `n` bytes.
@@ -52,7 +54,7 @@ fn compile_large(text: &[u8], words: &[u32], o: Options, out: &mut [u8]) -> Answ
     let mut starts = [false; Marks::TEXT + 1];
     let mut ends = [false; Marks::TEXT + 1];
     find_lines(text, &mut starts, &mut ends);
-    let mut buffer = [0u8; Answer::BUFFER];
+    let mut buffer = [0u8; Answer::LARGE];
     let a = walk(text, &starts, &ends, words, o, &mut buffer);
     match a {
         Answer::Refused(number, place) => Answer::Refused(number, place),
@@ -60,7 +62,7 @@ fn compile_large(text: &[u8], words: &[u32], o: Options, out: &mut [u8]) -> Answ
             if out.len() < n {
                 return Answer::Refused(14, n);
             }
-            if Answer::BUFFER < n {
+            if Answer::LARGE < n {
                 return walk(text, &starts, &ends, words, o, out);
             }
             copy_front(out, &buffer, n);
@@ -77,7 +79,7 @@ fn compile_few(text: &[u8], words: &[u32], o: Options, out: &mut [u8]) -> Answer
     let mut starts = [false; Marks::TEXT + 1];
     let mut ends = [false; Marks::TEXT + 1];
     find_lines(text, &mut starts, &mut ends);
-    let mut buffer = [0u8; Answer::BUFFER];
+    let mut buffer = [0u8; Answer::FEW];
     let a = walk_small(text, &starts, &ends, words, o, &mut buffer);
     match a {
         Answer::Refused(number, place) => Answer::Refused(number, place),
@@ -85,7 +87,7 @@ fn compile_few(text: &[u8], words: &[u32], o: Options, out: &mut [u8]) -> Answer
             if out.len() < n {
                 return Answer::Refused(14, n);
             }
-            if Answer::BUFFER < n {
+            if Answer::FEW < n {
                 return walk_small(text, &starts, &ends, words, o, out);
             }
             copy_front(out, &buffer, n);
