@@ -15,8 +15,8 @@ use Rattle.listing.specs.Listing.{listing}
 use Rattle.template.specs.Result.{Result, refused, accepted, andThen}
 use Rattle.template.specs.Walk.{readSpans}
 use Rattle.template.specs.Compile.{fit}
-use Rattle.template.specs.Answers.{AnswerIs, BufferedIs, Buffers, bufferedMeans}
-use Rattle.template.specs.Finish.{walkListing, walkAnswer}
+use Rattle.template.specs.Answers.{AnswerIs}
+use Rattle.template.specs.Finish.{walkListing, walkAnswer, Buffers, bufferedMeans, BufferedIs}
 use Rattle.template.specs.declared.compile.Answer.{Answer}
 use Rattle.template.specs.declared.compile.Answer.the-variants.{Listed, Refused}
 use Rattle.template.specs.declared.visit.Options.{Options}

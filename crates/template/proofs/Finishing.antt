@@ -28,11 +28,10 @@ use Rattle.template.specs.Store.{elementAt, Is, Chain, Holds}
 use Rattle.template.specs.Visit.{HereIs, leafMeans, Made}
 use Rattle.template.specs.Links.{followedBy}
 use Rattle.template.specs.Turn.{filled, joinedOf, gappedOf}
-use Rattle.template.specs.Finish.{restText, RestIs, walkListing}
+use Rattle.template.specs.Finish.{restText, RestIs, walkListing, BufferedIs}
 use Rattle.listing.specs.Listing.{write, listing}
 use Rattle.listing.specs.Written.{largest, Written}
 use Rattle.template.specs.Result.{accepted}
-use Rattle.template.specs.Answers.{BufferedIs}
 use Rattle.template.specs.declared.compile.Answer.the-variants.{Listed}
 use Rattle.template.specs.declared.element.Front.the-variants as Front
 use Rattle.template.specs.declared.element.Back.the-variants as Back

@@ -16,7 +16,7 @@ use Rattle.support.specs.Position.{Place, at, placeOf}
 use Rattle.support.specs.TextRules.{trailingBlanks}
 use Rattle.support.specs.declared.position.Place as code
 use Rattle.listing.specs.Quoted.{digits, decimal, quoted}
-use Rattle.listing.specs.Form.{Word, spell, place, writeField, writeHead, writeFields, nil, writeForm, writeForms}
+use Rattle.listing.specs.Form.{Word, spell, place, writeField, writeHead, nil, writeForm, writeForms}
 use Rattle.listing.specs.Listing.{bit, placeField, indentField, callForms, itemForm}
 use Rattle.listing.specs.Children.{decoratorChildren, helperChildren}
 use Rattle.template.specs.Step.{anyBlanks}

@@ -37,10 +37,9 @@ use listing::write::put_bytes;
 use support::position::Place;
 ghost use Prim.Native.Nat.{_*_, _<_};
 ghost use Rattle.json_path.specs.Span.{spanCount};
-ghost use Rattle.template.specs.Answers.{BufferedIs};
 ghost use Rattle.template.specs.Element.{Good};
 ghost use Rattle.template.specs.Lines.{LinesAre};
-ghost use Rattle.template.specs.Finish.{walkListing};
+ghost use Rattle.template.specs.Finish.{walkListing, BufferedIs};
 
 // As `walk`, for at most 320 spans.
 pub(crate) fn walk_small(

@@ -41,10 +41,9 @@ use support::position::Place;
 use support::position::line_col;
 ghost use mathlib.Core.Path.{_≡_};
 ghost use Rattle.template.specs.Element.{Good};
-ghost use Rattle.template.specs.Answers.{BufferedIs};
 ghost use Rattle.template.specs.Lines.{LinesAre};
 ghost use Rattle.template.specs.Turn.{LookIs};
-ghost use Rattle.template.specs.Finish.{unfinishedAt, RestIs, walkListing};
+ghost use Rattle.template.specs.Finish.{unfinishedAt, RestIs, walkListing, BufferedIs};
 
 // A turn's visit; while a block closes, nothing is visited.
 pub(crate) fn look(
