@@ -81,7 +81,7 @@ fn good_room(text: &[u8], words: &[u32], options: u32, listing: &[u8], room: usi
     }
 }
 
-// A number that tells one listing from another.
+// A sum in which a byte counts by its place, so that few wrong listings have the right one.
 fn sum_of(bytes: &[u8]) -> usize {
     let mut sum: usize = 0;
     let mut i = 0;

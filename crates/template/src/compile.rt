@@ -25,7 +25,7 @@ pub enum Answer {
 }
 
 impl Answer {
-    // How many bytes the buffers have: more than the listing of a card that a parser makes.
+    // How many bytes the buffers have. A longer listing costs a second walk.
     pub const LARGE: usize = 131072;
 
     pub const FEW: usize = 65536;
