@@ -4,7 +4,7 @@ ghost use Rattle.card.specs.Number.{is_digit, largest};
 ghost use Rattle.card.specs.Answers.{DigitsIs};
 
 // The number that digits write, and the offset behind them.
-#[derive(Drop)]
+#[derive(Clone, Copy)]
 pub struct Digits {
     pub value: u32,
     pub end: usize,

@@ -5,7 +5,7 @@ ghost use Rattle.card.specs.Answers.{FieldIs, LineIs, LinesIs, CardIs};
 use crate::number::read_digits;
 
 // The options, how many words the spans have, and the offset of the text.
-#[derive(Drop)]
+#[derive(Clone, Copy)]
 pub struct Card {
     pub options: u32,
     pub words: usize,
@@ -24,21 +24,21 @@ impl Card {
 }
 
 // A card, or other input: document 01's number 15 at 0.
-#[derive(Drop)]
+#[derive(Clone, Copy)]
 pub enum CardRead {
     Card(Card),
     Other,
 }
 
 // A number and the offset behind the byte that follows it, or there is none.
-#[derive(Drop)]
+#[derive(Clone, Copy)]
 enum Field {
     Number(u32, usize),
     None,
 }
 
 // The words of a span line and the offset behind it.
-#[derive(Drop)]
+#[derive(Clone, Copy)]
 struct SpanLine {
     tag: u32,
     start: u32,
@@ -46,14 +46,14 @@ struct SpanLine {
     next: usize,
 }
 
-#[derive(Drop)]
+#[derive(Clone, Copy)]
 enum Line {
     Span(SpanLine),
     None,
 }
 
 // How many words are stored, and the offset behind their lines.
-#[derive(Drop)]
+#[derive(Clone, Copy)]
 struct Lines {
     words: usize,
     next: usize,

@@ -1,5 +1,7 @@
 // Reads a card from standard input, an options line, a line a span, an empty line and the text, and
 // writes the listing of its tree, or why it is turned away.
+#![tactic(auto)]
+
 use card::read::{Card, CardRead, read_card};
 use libc::{STDIN_FILENO, STDOUT_FILENO};
 use support::bytes::part;

@@ -1,5 +1,7 @@
 // `compile2` for programs in other languages: the answer is two numbers. The function's name begins
 // with the project's, since a name is the whole program's, as in C.
+#![tactic(auto)]
+
 ghost use Rattle.std.specs.Prelude.{◌≡◌, length};
 ghost use Rattle.template.specs.Compile.{answer};
 ghost use Rattle.ccompile.specs.Told.{ToldIs, told_of};
@@ -8,7 +10,7 @@ use template::compile::{Answer, compile2};
 
 // The number 0 and the listing's length, or a number from 1 to 14 and a place.
 #[repr(C)]
-#[derive(Drop)]
+#[derive(Clone, Copy)]
 pub struct Told {
     pub number: u32,
     pub value: usize,

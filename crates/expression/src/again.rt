@@ -16,7 +16,7 @@ use support::bytes::{part, precedes};
 
 // The first parameter of a link's parts and the link to the parts after it, or there is none, or a
 // part before it cannot be read.
-#[derive(Drop)]
+#[derive(Clone, Copy)]
 pub enum ParamStep {
     Param(Parameter, Parts),
     End,
@@ -24,7 +24,7 @@ pub enum ParamStep {
 }
 
 // Every key, or those that stand after a name in byte order.
-#[derive(Drop)]
+#[derive(Clone, Copy)]
 pub enum Bound {
     None,
     Above(Name),
@@ -32,20 +32,20 @@ pub enum Bound {
 
 // The first key above a bound (the others are those above it), or there is none, or a part cannot be
 // read.
-#[derive(Drop)]
+#[derive(Clone, Copy)]
 pub enum KeyStep {
     Key(Hash),
     End,
     Failed(Fault),
 }
 
-#[derive(Drop)]
+#[derive(Clone, Copy)]
 enum MaybeParam {
     Param(Parameter),
     None,
 }
 
-#[derive(Drop)]
+#[derive(Clone, Copy)]
 enum MaybeHash {
     Hash(Hash),
     None,

@@ -5,7 +5,7 @@ use json_path::path::{Name, Path};
 
 // A literal's text: the text from `start` to `end`, or, if `quoted`, what that inner text of single
 // quotes stands for.
-#[derive(Drop)]
+#[derive(Clone, Copy)]
 pub struct Literal {
     pub start: usize,
     pub end: usize,
@@ -14,7 +14,7 @@ pub struct Literal {
 
 // A link: the expression that is read from span number `from` on, up to the limit, with so many more
 // subexpressions allowed inside one another.
-#[derive(Drop)]
+#[derive(Clone, Copy)]
 pub struct Subexpression {
     pub from: usize,
     pub limit: usize,
@@ -26,7 +26,7 @@ impl Subexpression {
     pub const LIMIT: usize = 32;
 }
 
-#[derive(Drop)]
+#[derive(Clone, Copy)]
 pub enum Parameter {
     Name(Name),
     Path(Path),
@@ -34,7 +34,7 @@ pub enum Parameter {
     Subexpression(Subexpression),
 }
 
-#[derive(Drop)]
+#[derive(Clone, Copy)]
 pub enum BlockParam {
     None,
     Single(Name),
@@ -42,14 +42,14 @@ pub enum BlockParam {
 }
 
 // A key and its value.
-#[derive(Drop)]
+#[derive(Clone, Copy)]
 pub struct Hash {
     pub key: Name,
     pub value: Parameter,
 }
 
 // What the spans behind an expression's name give, one by one: tags 28, 32, 33, 35, any other.
-#[derive(Drop)]
+#[derive(Clone, Copy)]
 pub enum Part {
     Param(Parameter),
     Hash(Hash),
@@ -59,7 +59,7 @@ pub enum Part {
 }
 
 // A link to the parts of an expression: those read from span number `from` on, up to the limit.
-#[derive(Drop)]
+#[derive(Clone, Copy)]
 pub struct Parts {
     pub from: usize,
     pub limit: usize,
@@ -67,7 +67,7 @@ pub struct Parts {
 }
 
 // Why an expression is turned away: 8, 8, 9 and 12.
-#[derive(Drop)]
+#[derive(Clone, Copy)]
 pub enum Fault {
     Ended,
     NotAllowed,
@@ -77,7 +77,7 @@ pub enum Fault {
 
 // An expression: left tilde, name, its parts behind the name; of these the last block parameter and
 // whether the right tilde is set; and the number from which the spans after it are.
-#[derive(Drop)]
+#[derive(Clone, Copy)]
 pub struct ExpressionSpec {
     pub omit_pre_ws: bool,
     pub name: Parameter,
@@ -88,47 +88,47 @@ pub struct ExpressionSpec {
 }
 
 // Whether the left tilde stands there, and the number from which the spans after it are.
-#[derive(Drop)]
+#[derive(Clone, Copy)]
 pub enum TildeRead {
     Done(bool, usize),
     Ended,
 }
 
 // In this and the next two: what was read, and the number from which the spans after it are.
-#[derive(Drop)]
+#[derive(Clone, Copy)]
 pub enum BlockRead {
     Done(BlockParam, usize),
     Ended,
 }
 
-#[derive(Drop)]
+#[derive(Clone, Copy)]
 pub enum ParamRead {
     Done(Parameter, usize),
     Failed(Fault),
 }
 
-#[derive(Drop)]
+#[derive(Clone, Copy)]
 pub enum HashRead {
     Done(Hash, usize),
     Failed(Fault),
 }
 
 // The first part of a link's and the link to the others, or there is none, or it cannot be read.
-#[derive(Drop)]
+#[derive(Clone, Copy)]
 pub enum PartRead {
     Part(Part, Parts),
     End,
     Failed(Fault),
 }
 
-#[derive(Drop)]
+#[derive(Clone, Copy)]
 pub enum ExpressionRead {
     Done(ExpressionSpec),
     Failed(Fault),
 }
 
 // The name that a parameter gives, or none.
-#[derive(Drop)]
+#[derive(Clone, Copy)]
 pub enum AsName {
     Name(Name),
     None,

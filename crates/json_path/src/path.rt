@@ -7,13 +7,13 @@ use crate::span::{Next, Span, next_span, skip_to};
 use support::bytes::{part, same_bytes};
 
 // A name: a part of the text.
-#[derive(Drop)]
+#[derive(Clone, Copy)]
 pub struct Name {
     pub start: usize,
     pub end: usize,
 }
 
-#[derive(Drop)]
+#[derive(Clone, Copy)]
 pub enum PathSeg {
     Named(Name),
     Root,
@@ -23,7 +23,7 @@ pub enum PathSeg {
 
 // The raw text from `start` to `end`. The segments are those of the walked spans from number
 // `from` on, up to one that ends past `end`.
-#[derive(Drop)]
+#[derive(Clone, Copy)]
 pub struct Relative {
     pub start: usize,
     pub end: usize,
@@ -31,7 +31,7 @@ pub struct Relative {
 }
 
 // The raw text from `start` to `end`.
-#[derive(Drop)]
+#[derive(Clone, Copy)]
 pub struct Local {
     pub start: usize,
     pub end: usize,
@@ -39,35 +39,35 @@ pub struct Local {
     pub name: Name,
 }
 
-#[derive(Drop)]
+#[derive(Clone, Copy)]
 pub enum Path {
     Relative(Relative),
     Local(Local),
 }
 
 // A path, and the number from which the spans after it are.
-#[derive(Drop)]
+#[derive(Clone, Copy)]
 pub struct PathRead {
     pub path: Path,
     pub next: usize,
 }
 
 // The first segment of a relative path and the path of the others, or there is none.
-#[derive(Drop)]
+#[derive(Clone, Copy)]
 pub enum SegmentRead {
     Segment(PathSeg, Relative),
     End,
 }
 
 // The segment that a span gives, or none.
-#[derive(Drop)]
+#[derive(Clone, Copy)]
 enum Given {
     Segment(PathSeg),
     None,
 }
 
 // The level and the name of a local path, or it is none.
-#[derive(Drop)]
+#[derive(Clone, Copy)]
 enum LocalName {
     Local(usize, Name),
     None,

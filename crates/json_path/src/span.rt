@@ -3,7 +3,7 @@ ghost use Rattle.std.specs.Prelude.{◌≡◌, get_or};
 ghost use Rattle.json_path.specs.Span.{span_count, span_at};
 ghost use Rattle.json_path.specs.Answers.{NextIs, EscapeIs, SkipIs};
 
-#[derive(Drop)]
+#[derive(Clone, Copy)]
 pub struct Span {
     pub tag: u32,
     pub start: usize,
@@ -21,14 +21,14 @@ impl Span {
 }
 
 // The next walked span, or none is left.
-#[derive(Drop)]
+#[derive(Clone, Copy)]
 pub enum Next {
     Span(Span),
     End,
 }
 
 // The escape that stands at a number, or none: the list ends there, or another span stands there.
-#[derive(Drop)]
+#[derive(Clone, Copy)]
 pub enum Escape {
     Found(Span),
     None,

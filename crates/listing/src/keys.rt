@@ -12,7 +12,7 @@ use json_path::span::{Next, next_span};
 use support::bytes::{part, precedes, same_bytes};
 
 // So many cells hold the keys, or there are not enough.
-#[derive(Drop)]
+#[derive(Clone, Copy)]
 pub(crate) enum Held {
     Keys(usize),
     TooMany,

@@ -15,7 +15,7 @@ use crate::value::{
 };
 
 // JSON within the limits; not JSON; over a limit.
-#[derive(Drop)]
+#[derive(Clone, Copy)]
 pub enum Verdict {
     Valid,
     Invalid,
@@ -154,7 +154,7 @@ fn mode_act(mode: Mode, top: Top, c: u8) -> Act
 }
 
 // The open brackets, how many and as bits, innermost lowest, 1 for an object; and the mode.
-#[derive(Drop)]
+#[derive(Clone, Copy)]
 struct State {
     depth: usize,
     bits: usize,
@@ -167,7 +167,7 @@ impl State {
 }
 
 // After a byte: on in a state, or the byte is at fault.
-#[derive(Drop)]
+#[derive(Clone, Copy)]
 enum Fed {
     On(State),
     Invalid,

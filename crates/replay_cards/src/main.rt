@@ -3,6 +3,8 @@
 // their listing: a refused call must leave the output as it was, and an accepted one must change only
 // what its listing fills. A listing that is too long for `cardtree` is made once more with room for four
 // times as much. The answers are compared with those of tools/cards.
+#![tactic(auto)]
+
 ghost use Rattle.std.specs.Prelude.{◌≤◌, length};
 
 use card::number::read_digits;

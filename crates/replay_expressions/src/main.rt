@@ -1,6 +1,8 @@
 // Reads stored span lists from standard input and writes what expression answers of them: two lines a
 // record, the text and the words (decimal, one space between). The answers are compared with those of
 // tools/expressions.
+#![tactic(auto)]
+
 use card::stored::{line_at, read_words};
 use expression::again::{Bound, KeyStep, ParamStep, enter, next_key, next_param};
 use expression::parameter::{

@@ -1,6 +1,8 @@
 // Reads stored span lists from standard input and writes what json_path answers of them: two lines
 // a record, the text and the words (decimal, one space between). The answers are compared with
 // those of tools/paths.
+#![tactic(auto)]
+
 use card::stored::{line_at, read_words};
 use json_path::path::{Path, PathSeg, Relative, SegmentRead, next_segment, parse_json_path};
 use json_path::span::{Escape, Next, Span, escape_at, next_span, skip_to, span_at, span_count};

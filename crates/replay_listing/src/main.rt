@@ -1,6 +1,8 @@
 // Reads stored span lists from standard input and writes what listing's writers write of them: two
 // lines a record, the text and the words (decimal, one space between). Before that: all bytes quoted,
 // and numbers around each power of ten. What is written is compared with that of tools/listing.
+#![tactic(auto)]
+
 ghost use Rattle.std.specs.Prelude.{◌≤◌, ◌<◌};
 
 use card::stored::{line_at, read_words};

@@ -1,6 +1,8 @@
 // Runs stored texts. Standard input holds records: a letter, `l` for a literal's text or `q` for the
 // inner text of single quotes; the text's length, one byte; the text. For each it writes a line: the
 // verdict, `v`, `i` or `o`, and for `q` a space and the rewritten text.
+#![tactic(auto)]
+
 ghost use Rattle.std.specs.Prelude.{◌≡◌, ◌<◌};
 
 use libc::{STDIN_FILENO, STDOUT_FILENO};

@@ -77,7 +77,7 @@ fn list(back: bool) {
 
 // What the strings with a scalar value on both sides gave: how many there are, how many are valid to
 // their end, and hashes.
-#[derive(Drop)]
+#[derive(Clone, Copy)]
 struct Tally {
     strings: u64,
     valid: u64,

@@ -59,7 +59,7 @@ pub fn put_code_point(buf: &mut Buffer, at: usize, c: u64) -> usize {
 }
 
 // Of blanks, newlines, a letter and White_Space of two and three bytes; or of a comment's marks.
-#[derive(Drop)]
+#[derive(Clone, Copy)]
 pub enum Alphabet {
     Blanks,
     Marks,

@@ -17,7 +17,7 @@ use crate::walk::walk;
 use json_path::span::span_count;
 
 // The listing's length, or a number from 1 to 14 and a place.
-#[derive(Drop)]
+#[derive(Clone, Copy)]
 pub enum Answer {
     Listed(usize),
     Refused(u32, usize),

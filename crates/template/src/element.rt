@@ -8,7 +8,7 @@ use json_path::path::Name;
 use support::position::Place;
 
 // How the front of a text is trimmed: not at all; blanks, then the first newline; White_Space.
-#[derive(Drop)]
+#[derive(Clone, Copy)]
 pub enum Front {
     Kept,
     Line,
@@ -16,7 +16,7 @@ pub enum Front {
 }
 
 // How its end is trimmed: not at all; blanks; White_Space.
-#[derive(Drop)]
+#[derive(Clone, Copy)]
 pub enum Back {
     Kept,
     Blanks,
@@ -25,7 +25,7 @@ pub enum Back {
 
 // The text from `start` to `end` without the first bytes of its escapes, which are listed from span
 // number `escapes` on. It is made, and trimmed, when it is listed.
-#[derive(Drop)]
+#[derive(Clone, Copy)]
 pub struct RawString {
     pub start: usize,
     pub end: usize,
@@ -35,7 +35,7 @@ pub struct RawString {
 }
 
 // A comment's own text, with its marks; `compact` says which marks they are.
-#[derive(Drop)]
+#[derive(Clone, Copy)]
 pub struct Comment {
     pub start: usize,
     pub end: usize,
@@ -43,7 +43,7 @@ pub struct Comment {
 }
 
 // An expression by its link: it is read from span number `from` on, up to the limit.
-#[derive(Drop)]
+#[derive(Clone, Copy)]
 pub struct HelperTemplate {
     pub from: usize,
     pub limit: usize,
@@ -51,7 +51,7 @@ pub struct HelperTemplate {
 }
 
 // The same; and whether it keeps the blanks before `start` as indent.
-#[derive(Drop)]
+#[derive(Clone, Copy)]
 pub struct DecoratorTemplate {
     pub from: usize,
     pub limit: usize,
@@ -60,7 +60,7 @@ pub struct DecoratorTemplate {
     pub start: usize,
 }
 
-#[derive(Drop)]
+#[derive(Clone, Copy)]
 pub enum TemplateElement {
     Empty,
     RawString(RawString),
@@ -77,7 +77,7 @@ pub enum TemplateElement {
 // An element with its name, which only a tag has, its place (line 0: none) and its links: to the element
 // after it in its body, to the first of its own body, and to the first of its else, if it has one
 // (`inverted`). While its block is open, `inverse` of an else-if node is the node before it.
-#[derive(Drop)]
+#[derive(Clone, Copy)]
 pub struct Element {
     pub element: TemplateElement,
     pub name: Parameter,

@@ -3,7 +3,7 @@ ghost use Rattle.std.specs.Prelude.{◌≡◌};
 ghost use Rattle.template.specs.Turn.{begun};
 
 // The kinds of open bodies: the root's, and those of the four block starts.
-#[derive(Drop)]
+#[derive(Clone, Copy)]
 pub enum Opened {
     Root,
     Helper,
@@ -15,7 +15,7 @@ pub enum Opened {
 // An open body: its block's number; the newest else-if node (0: none); the body's first and last
 // element; whether there is an else-if; whether the body is the plain else. While the else-ifs are
 // turned round, `first` is what has been turned so far.
-#[derive(Drop)]
+#[derive(Clone, Copy)]
 pub struct Frame {
     pub opened: Opened,
     pub block: usize,
@@ -58,7 +58,7 @@ impl Frame {
 }
 
 // The innermost body is waited for, or takes elements, or is a raw body that takes nothing more.
-#[derive(Drop)]
+#[derive(Clone, Copy)]
 pub enum Stage {
     Waiting,
     Filling,
@@ -66,7 +66,7 @@ pub enum Stage {
 }
 
 // The previous end, and whether there was a previous span; the right-tilde mark; the line mark.
-#[derive(Drop)]
+#[derive(Clone, Copy)]
 pub struct Marks {
     pub stage: Stage,
     pub end_pos: usize,

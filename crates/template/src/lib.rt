@@ -1,4 +1,6 @@
 // The walk over the spans and `compile2`, after handlebars' src/template.rs.
+#![tactic(auto)]
+
 pub mod compile;
 mod element;
 mod frame;

@@ -22,7 +22,7 @@ use support::position::Place;
 use support::str::{find_trailing_whitespace_chars, hbs_comment_compact_text, hbs_comment_text};
 
 // A block of which the body, or the else, is being listed.
-#[derive(Drop)]
+#[derive(Clone, Copy)]
 pub struct Waiting {
     pub block: usize,
     pub inverse: bool,

@@ -16,7 +16,7 @@ use support::str::{trim_end_blanks, trim_start_blanks};
 use support::white_space::{trim_end, trim_start};
 
 // A part of the text, and the numbers of the escapes in it.
-#[derive(Drop)]
+#[derive(Clone, Copy)]
 pub struct Cut {
     pub start: usize,
     pub end: usize,

@@ -18,13 +18,13 @@ use json_path::span::{Escape, Span, escape_at, span_at, span_count};
 use support::bytes::{byte_at, part, same_bytes};
 use support::utf8::{is_char_boundary, valid_up_to};
 
-#[derive(Drop)]
+#[derive(Clone, Copy)]
 pub struct Refusal {
     pub number: u32,
     pub place: usize,
 }
 
-#[derive(Drop)]
+#[derive(Clone, Copy)]
 pub enum Checked {
     Good,
     Refused(Refusal),

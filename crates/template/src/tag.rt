@@ -10,7 +10,7 @@ use expression::parse::{parse_expression, parse_name, parse_tilde};
 use json_path::span::Span;
 
 // Tildes, name, the number from which the expression is read, and the one behind it.
-#[derive(Drop)]
+#[derive(Clone, Copy)]
 pub struct TagExpression {
     pub omit_pre_ws: bool,
     pub omit_pro_ws: bool,
@@ -19,7 +19,7 @@ pub struct TagExpression {
     pub next: usize,
 }
 
-#[derive(Drop)]
+#[derive(Clone, Copy)]
 pub enum TagRead {
     Done(TagExpression),
     Failed(Fault),

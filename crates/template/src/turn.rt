@@ -8,7 +8,7 @@ use crate::frame::{Frame, Opened};
 use crate::visit::{Act, Added};
 
 // The newest else-if node of an open block, if it has one.
-#[derive(Drop)]
+#[derive(Clone, Copy)]
 pub enum ChainHead {
     None,
     Node(usize),
@@ -44,14 +44,14 @@ pub(crate) fn less(x: usize) -> usize
 }
 
 // A turn: the act of a span; an else-if node is turned round; the block is complete.
-#[derive(Drop)]
+#[derive(Clone, Copy)]
 pub enum Turn {
     Act(Act),
     Revert,
     Set,
 }
 
-#[derive(Drop)]
+#[derive(Clone, Copy)]
 pub struct Plan {
     pub made: Element,
     pub owner: Element,
@@ -66,14 +66,14 @@ pub struct Plan {
 }
 
 // The frame and the last element of its body, with `at` behind them.
-#[derive(Drop)]
+#[derive(Clone, Copy)]
 pub struct Joined {
     pub top: Frame,
     pub last: Element,
 }
 
 // What is open when a turn begins.
-#[derive(Drop)]
+#[derive(Clone, Copy)]
 pub struct Open {
     pub top: Frame,
     pub below: Frame,
@@ -361,7 +361,7 @@ pub(crate) fn join(top: Frame, last: Element, at: usize) -> Joined
 }
 
 // The gap's element joins the body on top, if it is kept.
-#[derive(Drop)]
+#[derive(Clone, Copy)]
 pub struct Gapped {
     pub made: Element,
     pub len: usize,

@@ -25,14 +25,14 @@ use json_path::span::{Next, Span, next_span, span_count};
 use support::bytes::part;
 use support::position::{Place, line_col};
 
-#[derive(Drop)]
+#[derive(Clone, Copy)]
 pub struct Options {
     pub prevent_indent: bool,
     pub is_partial: bool,
 }
 
 // The place of the offset `at`.
-#[derive(Drop)]
+#[derive(Clone, Copy)]
 pub struct Here {
     pub place: Place,
     pub at: usize,
@@ -40,7 +40,7 @@ pub struct Here {
 
 // What the walk knows where it is: the marks; of the innermost body its kind, whether it is a plain
 // else and its opening tag's name; open blocks with their else-ifs; the last place found.
-#[derive(Drop)]
+#[derive(Clone, Copy)]
 pub struct View {
     pub marks: Marks,
     pub opened: Opened,
@@ -52,7 +52,7 @@ pub struct View {
 
 // What an element is that is added: one of the innermost body; a block, which opens; an else-if's node,
 // whose branch begins.
-#[derive(Drop)]
+#[derive(Clone, Copy)]
 pub enum Added {
     Leaf,
     Block(Opened),
@@ -61,7 +61,7 @@ pub enum Added {
 
 // What is done to the tree: nothing; an element is added; a plain else begins; the innermost block
 // closes.
-#[derive(Drop)]
+#[derive(Clone, Copy)]
 pub enum Act {
     Skip,
     Add(Element, Added),
@@ -70,7 +70,7 @@ pub enum Act {
 }
 
 // First the gap, if it is kept, joins the innermost body, then its last text is trimmed, then the act.
-#[derive(Drop)]
+#[derive(Clone, Copy)]
 pub struct Step {
     pub gapped: bool,
     pub gap: Element,
@@ -81,7 +81,7 @@ pub struct Step {
     pub next: usize,
 }
 
-#[derive(Drop)]
+#[derive(Clone, Copy)]
 pub enum Visit {
     Refused(Refusal),
     End,

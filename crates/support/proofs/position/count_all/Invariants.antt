@@ -1,0 +1,12 @@
+-- The counts so far are those of the first `i` bytes; a turn counts a block. Assumes nothing.
+use Prim.Native.Nat.{◌≤◌, ◌-◌}
+use mathlib.Core.Path.{◌≡◌}
+use lib.ListN.{length, take}
+use Rattle.support.specs.Code.Blocks.{count, is_feed, is_first}
+use Rattle.support.proofs.position.count_all.Given as goal
+
+abbrev pub invariant-loop-i : goal.invariant-loop-i
+invariant-loop-i l = (l.i ≤ length l.bytes) × (l.feeds ≡ count is_feed (take l.i l.bytes)) × (l.firsts ≡ count is_first (take l.i l.bytes))
+
+abbrev pub decreases-loop-i : goal.decreases-loop-i
+decreases-loop-i l = length l.bytes - l.i
