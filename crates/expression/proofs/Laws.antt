@@ -14,7 +14,7 @@ use Rattle.json_path.specs.Answers.{Walked, SkipIs}
 use Rattle.json_path.specs.declared.span.Next.TheVariants as Next
 use Rattle.expression.specs.Expression.{Param, name, subexpression, call, no_params, no_keys, no_block_param, Expression, parameter, hash, block, block_after, tilde_after, params_of, keys_of, last_block, any_tilde, expression_of}
 use Rattle.expression.specs.Expression as spec
-use Rattle.expression.specs.Read.{notAllowed, over_limit, Read, done, failed, and_then, ◌>>=◌, pure, fail, mapped, read_or, Readable, next, skipping, is_tag}
+use Rattle.expression.specs.Read.{not_allowed, over_limit, Read, done, failed, and_then, ◌>>=◌, pure, fail, mapped, read_or, Readable, next, skipping, is_tag}
 use Rattle.expression.specs.Read as spec-read
 use Rattle.expression.specs.Readers.{is_name, read_tilde, read_own_span, read_path, read_literal, read_block_param, name_with, part_with, read_name_by, enough, read_name, read_subexpression, read_param, read_value, read_hash, read_expression, read_parts}
 use Rattle.expression.specs.Answers.{fault_means, call_or, param_means, ParamLinked, ParamNext, ParamIs, TildeIs, block_means, BlockIs, OwnIs, HashIs, part_means, PartLinked, parts_read, parts_at, FirstPart, PartIs, block_then, tilde_then, expression_means, ExpressionNext, ExpressionLinked, ExpressionIs, PartsLinked, PartsIs}
@@ -80,7 +80,7 @@ module _ (judged : Bool) (text : Bytes) (words : List ℕ) (d at : ℕ) where
     pub name_other : is_name s ≡ false → (s.tag ≡ 26 → ⊥) → (s.tag ≡ 27 → ⊥) → Named (ParamRead.Failed NotAllowed)
     name_other e f g = record {
       reads = name_first
-          ∙ ap (λ t. if t (pure (name (own text s))) (if (is_tag 26 s) (read_path text s) (if (is_tag 27 s) (read_subexpression judged text d s.end) (fail notAllowed))) (spans_from words (s.number + 1))) e
+          ∙ ap (λ t. if t (pure (name (own text s))) (if (is_tag 26 s) (read_path text s) (if (is_tag 27 s) (read_subexpression judged text d s.end) (fail not_allowed))) (spans_from words (s.number + 1))) e
           ∙ rw (ne_eqb s.tag 26 f, ne_eqb s.tag 27 g);
       onward = tt;
       linked = tt;
@@ -104,7 +104,7 @@ module _ (judged : Bool) (text : Bytes) (d : ℕ) (s : Span) (rest : List Span) 
   pub value_literal : s.tag ≡ 29 → read_value judged text d s rest ≡ read_literal judged text s rest
   value_literal e = rw e
 
-  pub value_other : (s.tag ≡ 26 → ⊥) → (s.tag ≡ 27 → ⊥) → (s.tag ≡ 29 → ⊥) → read_value judged text d s rest ≡ failed notAllowed
+  pub value_other : (s.tag ≡ 26 → ⊥) → (s.tag ≡ 27 → ⊥) → (s.tag ≡ 29 → ⊥) → read_value judged text d s rest ≡ failed not_allowed
   value_other e f g = rw (ne_eqb s.tag 26 e, ne_eqb s.tag 27 f, ne_eqb s.tag 29 g)
 
 module _ (judged : Bool) (text : Bytes) (words : List ℕ) (d at : ℕ) where

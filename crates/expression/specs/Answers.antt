@@ -11,7 +11,7 @@ use Rattle.literal.specs.declared.check.Verdict.{Verdict}
 use Rattle.literal.specs.declared.check.Verdict.TheVariants as Verdict
 use Rattle.expression.specs.Expression.{Param, name, path, literal, subexpression, Call, call, Params, no_params, Keys, no_keys, no_block_param, single, pair, Expression, as_name, parameter, hash, block, right_tilde, skipped, params_of, keys_of, expression_of}
 use Rattle.expression.specs.Expression as spec
-use Rattle.expression.specs.Read.{ended, notAllowed, invalid_literal, over_limit, Read, done, failed, mapped, read_or, Readable}
+use Rattle.expression.specs.Read.{ended, not_allowed, invalid_literal, over_limit, Read, done, failed, mapped, read_or, Readable}
 use Rattle.expression.specs.Read as spec-read
 use Rattle.expression.specs.Readers.{read_tilde, read_own_span, read_block_param, read_hash, read_parts, read_expression}
 use Rattle.expression.specs.declared.parameter.Literal as declared
@@ -44,7 +44,7 @@ use Rattle.expression.specs.declared.parameter.ExpressionRead.TheVariants as Exp
 -- document 01's numbers of these are 8, 8, 9 and 12 (fault_number)
 abbrev pub fault_means : Fault → spec-read.Fault
 fault_means Ended = ended
-fault_means NotAllowed = notAllowed
+fault_means NotAllowed = not_allowed
 fault_means InvalidLiteral = invalid_literal
 fault_means OverLimit = over_limit
 

@@ -26,16 +26,16 @@ use Rattle.listing.proofs.PathWrites.{quote_head}
 
 pub single_bytes : (a : Bytes) → write_forms (block_param_forms (single a) nil) ≡ ascii "[as " ++ (quoted a ++ ascii "]\n")
 unfolding write_form
-single_bytes a = append-nil (write_form (line Word.asParams (quote a ∷ []))) ∙ quote_head Word.asParams a (ascii "]\n")
+single_bytes a = append-nil (write_form (line Word.as_params (quote a ∷ []))) ∙ quote_head Word.as_params a (ascii "]\n")
 
 pair_line : (a b : Bytes)
-    → write_form (line Word.asParams (quote a ∷ quote b ∷ [])) ≡ ascii "[as " ++ (quoted a ++ (ascii " " ++ (quoted b ++ ascii "]\n")))
+    → write_form (line Word.as_params (quote a ∷ quote b ∷ [])) ≡ ascii "[as " ++ (quoted a ++ (ascii " " ++ (quoted b ++ ascii "]\n")))
 unfolding write_form write_head write_fields write_field
 pair_line a b = simp (append-nil, append_assoc)
 
 pub pair_bytes : (a b : Bytes) → write_forms (block_param_forms (pair a b) nil) ≡ ascii "[as " ++ (quoted a ++ (ascii " " ++ (quoted b ++ ascii "]\n")))
 unfolding write_form
-pair_bytes a b = append-nil (write_form (line Word.asParams (quote a ∷ quote b ∷ []))) ∙ pair_line a b
+pair_bytes a b = append-nil (write_form (line Word.as_params (quote a ∷ quote b ∷ []))) ∙ pair_line a b
 
 -- the block parameters told by their case
 pub block_is : {l m : Bytes} {at r : ℕ} (text : Bytes) (b : BlockParam) {c : BlockParam} → b ≡ c

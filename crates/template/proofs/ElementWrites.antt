@@ -14,7 +14,7 @@ use Rattle.support.specs.declared.position.Place as code
 use Rattle.support.proofs.ByteLaws.{no_bytes}
 use Rattle.listing.specs.Quoted.{digits, decimal, quoted}
 use Rattle.listing.specs.Form.{Word, Field, spell, write_field, write_fields, write_head, nil, line, write_form, write_forms}
-use Rattle.listing.specs.Tree.{decorBlock, partialBlock}
+use Rattle.listing.specs.Tree.{decor_block, partial_block}
 use Rattle.listing.specs.Tree as T
 use Rattle.listing.specs.Listing.{bit, place_field, indent_field, call_forms, item_form}
 use Rattle.listing.specs.Children.{decorator_children, helper_children}
@@ -57,9 +57,9 @@ module _ {l m : Bytes} {at r : ℕ} where
   bit_clear e w = rw e w
 
   module _ (text : Bytes) (c : Comment) where
-    pub comment_compact : {s t : Bytes} → c.compact ≡ true → s ≡ part text c.start c.end → t ≡ comment_compact_text s
+    pub comment_compact_lem : {s t : Bytes} → c.compact ≡ true → s ≡ part text c.start c.end → t ≡ comment_compact_text s
         → Written (quoted t) l at m r → Written (quoted (comment_means text [] c)) l at m r
-    comment_compact e f g w = rw (e, ← f, ← g) w
+    comment_compact_lem e f g w = rw (e, ← f, ← g) w
 
     pub comment_plain : {s t : Bytes} → c.compact ≡ false → s ≡ part text c.start c.end → t ≡ comment_text s
         → Written (quoted t) l at m r → Written (quoted (comment_means text [] c)) l at m r
@@ -180,13 +180,13 @@ module _ (text : Bytes) (words : List ℕ) (e : Element) {l m : Bytes} {at r : �
       → Written (ascii "[decor-block " ++ (decorated_bytes text words (place_means e.place) d ++ ascii "[body\n")) l at m r
       → Written (opening text words e) l at m r
   unfolding opening_by wrap_means wrap_opening
-  decor_block_written {d} t w = told_written text words e t (rw (decorated_bytes_lem text words Word.decorBlock (place_means e.place) d (ascii "[body\n")) w)
+  decor_block_written {d} t w = told_written text words e t (rw (decorated_bytes_lem text words Word.decor_block (place_means e.place) d (ascii "[body\n")) w)
 
   pub partial_block_written : {d : DecoratorTemplate} → e.element ≡ E.PartialBlock d
       → Written (ascii "[partial-block " ++ (decorated_bytes text words (place_means e.place) d ++ ascii "[body\n")) l at m r
       → Written (opening text words e) l at m r
   unfolding opening_by wrap_means wrap_opening
-  partial_block_written {d} t w = told_written text words e t (rw (decorated_bytes_lem text words Word.partialBlock (place_means e.place) d (ascii "[body\n")) w)
+  partial_block_written {d} t w = told_written text words e t (rw (decorated_bytes_lem text words Word.partial_block (place_means e.place) d (ascii "[body\n")) w)
 
 pub block_bytes_lem : (text : Bytes) (words : List ℕ) (f : Field) (c : Bool) (h : HelperTemplate)
     → block_opening f c (head_at text words h)

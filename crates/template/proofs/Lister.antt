@@ -12,7 +12,7 @@ use Rattle.support.specs.Bytes.{Bytes, ascii, if}
 use Rattle.expression.specs.Expression.{Call, BlockParam, no_block_param}
 use Rattle.listing.specs.Form.{Word, Field, write_head, write_fields, Forms, nil, cons, open_form, write_form, write_forms}
 use Rattle.support.specs.Position.{Place}
-use Rattle.listing.specs.Tree.{Item, Wrap, decorBlock, partialBlock, Head, head, Elem, item, block, wrap, Body, end, then, Else, no_else, else}
+use Rattle.listing.specs.Tree.{Item, Wrap, decor_block, partial_block, Head, head, Elem, item, block, wrap, Body, end, then, Else, no_else, else}
 use Rattle.listing.specs.Listing.{bit, place_field, indent_field, call_forms, block_param_forms, item_form, wrap_form, block_form, elem_form, body_forms, else_forms, write}
 use Rattle.listing.specs.Written.{largest, Written}
 use Rattle.listing.proofs.Writes.{written_then, written_length}
@@ -59,8 +59,8 @@ block_bytes_lem f c (head x a i) b e = opened Word.block (f ∷ bit c ∷ bit i 
 wrap_bytes : (f : Field) (w : Wrap) (b : Forms)
     → write_form (wrap_form f w b) ≡ wrap_opening f w ++ (write_forms b ++ (ascii "]\n" ++ (write_forms nil ++ ascii "]\n")))
 unfolding wrap_form wrap_opening
-wrap_bytes f (decorBlock i d c) b = opened Word.decorBlock (f ∷ bit i ∷ indent_field d ∷ []) c no_block_param b nil
-wrap_bytes f (partialBlock i d c) b = opened Word.partialBlock (f ∷ bit i ∷ indent_field d ∷ []) c no_block_param b nil
+wrap_bytes f (decor_block i d c) b = opened Word.decor_block (f ∷ bit i ∷ indent_field d ∷ []) c no_block_param b nil
+wrap_bytes f (partial_block i d c) b = opened Word.partial_block (f ∷ bit i ∷ indent_field d ∷ []) c no_block_param b nil
 
 -- ---- what is left
 

@@ -17,7 +17,7 @@ use Rattle.expression.specs.Answers.{as_name_means}
 use Rattle.expression.specs.declared.parameter.AsName.{AsName}
 use Rattle.expression.specs.declared.parameter.AsName.TheVariants as AsName
 use Rattle.listing.specs.Tree as T
-use Rattle.template.specs.Kind.{BlockKind, helperBlock, rawBlock, decoratorBlock, partialBlock, skipped, block_end, Kind, plain, tagged, kinds, kind_of}
+use Rattle.template.specs.Kind.{BlockKind, helper_block, raw_block, decorator_block, partial_block, skipped, block_end, Kind, plain, tagged, kinds, kind_of}
 use Rattle.template.specs.State as S
 use Rattle.template.specs.State.{Owner, State, owner, open_count}
 use Rattle.template.specs.Nests.{kept_gap, is_filling, is_waiting, is_raw, takes_else, is_of_kind, may_end, plain_nests, tag_nests, nests}
@@ -148,40 +148,40 @@ end_means_lem k O.Root i (S.helper raw p done x) h = absurd h
 end_means_lem k O.Root i (S.in_else p x b done) h = absurd h
 end_means_lem k O.Root i (S.wrapper p w) h = absurd h
 end_means_lem k O.Helper i S.root h = absurd h
-end_means_lem helperBlock O.Helper i (S.helper raw p done x) h = ap not (sym h.1)
-end_means_lem rawBlock O.Helper i (S.helper raw p done x) h = sym h.1
-end_means_lem decoratorBlock O.Helper i (S.helper raw p done x) h = refl
-end_means_lem partialBlock O.Helper i (S.helper raw p done x) h = refl
-end_means_lem helperBlock O.Helper i (S.in_else p x b done) h = refl
-end_means_lem rawBlock O.Helper i (S.in_else p x b done) h = refl
-end_means_lem decoratorBlock O.Helper i (S.in_else p x b done) h = refl
-end_means_lem partialBlock O.Helper i (S.in_else p x b done) h = refl
+end_means_lem helper_block O.Helper i (S.helper raw p done x) h = ap not (sym h.1)
+end_means_lem raw_block O.Helper i (S.helper raw p done x) h = sym h.1
+end_means_lem decorator_block O.Helper i (S.helper raw p done x) h = refl
+end_means_lem partial_block O.Helper i (S.helper raw p done x) h = refl
+end_means_lem helper_block O.Helper i (S.in_else p x b done) h = refl
+end_means_lem raw_block O.Helper i (S.in_else p x b done) h = refl
+end_means_lem decorator_block O.Helper i (S.in_else p x b done) h = refl
+end_means_lem partial_block O.Helper i (S.in_else p x b done) h = refl
 end_means_lem k O.Helper i (S.wrapper p w) h = absurd h
 end_means_lem k O.Raw i S.root h = absurd h
-end_means_lem helperBlock O.Raw i (S.helper raw p done x) h = ap not (sym h.1)
-end_means_lem rawBlock O.Raw i (S.helper raw p done x) h = sym h.1
-end_means_lem decoratorBlock O.Raw i (S.helper raw p done x) h = refl
-end_means_lem partialBlock O.Raw i (S.helper raw p done x) h = refl
+end_means_lem helper_block O.Raw i (S.helper raw p done x) h = ap not (sym h.1)
+end_means_lem raw_block O.Raw i (S.helper raw p done x) h = sym h.1
+end_means_lem decorator_block O.Raw i (S.helper raw p done x) h = refl
+end_means_lem partial_block O.Raw i (S.helper raw p done x) h = refl
 end_means_lem k O.Raw i (S.in_else p x b done) h = absurd h
 end_means_lem k O.Raw i (S.wrapper p w) h = absurd h
 end_means_lem k O.Decorator i S.root h = absurd h
 end_means_lem k O.Decorator i (S.helper raw p done x) h = absurd h
 end_means_lem k O.Decorator i (S.in_else p x b done) h = absurd h
-end_means_lem helperBlock O.Decorator i (S.wrapper p w) h = refl
-end_means_lem rawBlock O.Decorator i (S.wrapper p w) h = refl
-end_means_lem decoratorBlock O.Decorator i (S.wrapper p (T.decorBlock m d c)) h = refl
-end_means_lem decoratorBlock O.Decorator i (S.wrapper p (T.partialBlock m d c)) h = absurd h
-end_means_lem partialBlock O.Decorator i (S.wrapper p (T.decorBlock m d c)) h = refl
-end_means_lem partialBlock O.Decorator i (S.wrapper p (T.partialBlock m d c)) h = absurd h
+end_means_lem helper_block O.Decorator i (S.wrapper p w) h = refl
+end_means_lem raw_block O.Decorator i (S.wrapper p w) h = refl
+end_means_lem decorator_block O.Decorator i (S.wrapper p (T.decor_block m d c)) h = refl
+end_means_lem decorator_block O.Decorator i (S.wrapper p (T.partial_block m d c)) h = absurd h
+end_means_lem partial_block O.Decorator i (S.wrapper p (T.decor_block m d c)) h = refl
+end_means_lem partial_block O.Decorator i (S.wrapper p (T.partial_block m d c)) h = absurd h
 end_means_lem k O.Partial i S.root h = absurd h
 end_means_lem k O.Partial i (S.helper raw p done x) h = absurd h
 end_means_lem k O.Partial i (S.in_else p x b done) h = absurd h
-end_means_lem helperBlock O.Partial i (S.wrapper p w) h = refl
-end_means_lem rawBlock O.Partial i (S.wrapper p w) h = refl
-end_means_lem decoratorBlock O.Partial i (S.wrapper p (T.decorBlock m d c)) h = absurd h
-end_means_lem decoratorBlock O.Partial i (S.wrapper p (T.partialBlock m d c)) h = refl
-end_means_lem partialBlock O.Partial i (S.wrapper p (T.decorBlock m d c)) h = absurd h
-end_means_lem partialBlock O.Partial i (S.wrapper p (T.partialBlock m d c)) h = refl
+end_means_lem helper_block O.Partial i (S.wrapper p w) h = refl
+end_means_lem raw_block O.Partial i (S.wrapper p w) h = refl
+end_means_lem decorator_block O.Partial i (S.wrapper p (T.decor_block m d c)) h = absurd h
+end_means_lem decorator_block O.Partial i (S.wrapper p (T.partial_block m d c)) h = refl
+end_means_lem partial_block O.Partial i (S.wrapper p (T.decor_block m d c)) h = absurd h
+end_means_lem partial_block O.Partial i (S.wrapper p (T.partial_block m d c)) h = refl
 
 pub end_is : {t : ℕ} {o : Opened} {r : Bool} → end_of t o ≡ r → OfKindIs t o r
 end_is {t} {o} e = record { means = λ k i w f h. sym e ∙ ap (λ n. end_of n o) (sym f) ∙ end_means_lem k o i w h }
@@ -263,8 +263,8 @@ module _ (g : Stage) (o : Opened) (i : Bool) (t : ℕ) (gap : Bool) where
       ends : (t : ℕ) → 15 ≤ t → t ≤ 18 → (k : BlockKind) × (kind_of t ≡ tagged (block_end k)) × (end_tag k ≡ t)
       ends t l u =
           let P : ℕ → Type 0 = λ n. (k : BlockKind) × (kind_of n ≡ tagged (block_end k)) × (end_tag k ≡ n) in
-          either P t 15 l (helperBlock, refl, refl) (λ h. either P t 16 h (rawBlock, refl, refl) (λ h. either P t 17 h (decoratorBlock, refl, refl)
-          (λ h. either P t 18 h (partialBlock, refl, refl) (λ h. absurd (omega arith)))))
+          either P t 15 l (helper_block, refl, refl) (λ h. either P t 16 h (raw_block, refl, refl) (λ h. either P t 17 h (decorator_block, refl, refl)
+          (λ h. either P t 18 h (partial_block, refl, refl) (λ h. absurd (omega arith)))))
 
       go : ((k : BlockKind) × (kind_of t ≡ tagged (block_end k)) × (end_tag k ≡ t)) → As r (kind_of t)
       go k = subst (As r) (sym k.1) (λ st h v. q ∙ cc (x.means k.0 i (owner st) k.2 v, y.means i (owner st) v, e, h))

@@ -14,7 +14,7 @@ use Rattle.json_path.specs.Span.{Span, own, skip_to, span_count, spans_from}
 use Rattle.json_path.specs.Path.{Segment, named, root, here, up, relative, local, segment_of, prepend, segments_to, ups_and_name, local_name, path_of}
 use Rattle.literal.specs.Requote.{requoted}
 use Rattle.expression.specs.Expression.{Param, name, path, literal, subexpression, Call, call, Params, no_params, param, Keys, no_keys, key, BlockParam, no_block_param, single, pair, Expression, Part, parameter, hash, block, right_tilde, skipped, insert_key, params_of, keys_of, last_block, expression_of}
-use Rattle.expression.specs.Read.{Fault, over_limit, notAllowed, exhausted, Read, done, failed, Reader, and_then, ◌>>=◌, pure, fail, next, peek, next_below, skipping, is_tag}
+use Rattle.expression.specs.Read.{Fault, over_limit, not_allowed, exhausted, Read, done, failed, Reader, and_then, ◌>>=◌, pure, fail, next, peek, next_below, skipping, is_tag}
 use Rattle.expression.specs.Readers.{is_name, read_tilde, literal_text, read_own_span, read_path, read_literal, read_second, read_block_param, value_with, part_with, read_name_by, read_subexpression_by, read_param_by, read_expression_by, read_parts_by, enough, read_expression}
 use Rattle.expression.specs.Answers.{call_or}
 use Rattle.expression.specs.declared.parameter.Subexpression.{Subexpression}
@@ -353,7 +353,7 @@ module _ (text : Bytes) (short : length text ≤ 16384) where
       fits_if (is_tag 26 s) (fits_path s (omega arith))
       (fits_if (is_tag 27 s) x
       (fits_if (is_tag 29 s) (fits_literal s g)
-      (fits_fail {e = notAllowed})))
+      (fits_fail {e = not_allowed})))
 
   fits_part : {j : ℕ} (prm : Reader Param) (s : Span) → ((i : ℕ) → Fits param_bytes i i prm) → Fits part_bytes j j (part_with text prm s)
   fits_part {j} prm s x =
@@ -389,7 +389,7 @@ module _ (text : Bytes) (short : length text ≤ 16384) where
         fits_if (is_name s) (fits_pure {a = name (own text s)} (omega (arith, name_is (own text s), own_short s)))
         (fits_if (is_tag 26 s) (fits_path s (omega arith))
         (fits_if (is_tag 27 s) (fits_more (omega arith) (fits_subexpression i d s.end (j - 100000)))
-        (fits_fail {e = notAllowed}))))
+        (fits_fail {e = not_allowed}))))
 
     fits_subexpression : (i d l j : ℕ) → Fits param_bytes j (j + 7) (read_subexpression_by false text i d l)
     fits_subexpression zero d l j = fits_fail {e = exhausted}

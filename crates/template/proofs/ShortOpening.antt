@@ -173,8 +173,8 @@ module _ (text : Bytes) (words : List ℕ) (good : Good text words) where
       )
   by_short (E.DecoratorExpression d) p c h = let e = wrapped_short Word.decor p d (ascii "]\n") h (omega arith) in omega arith
   by_short (E.PartialExpression d) p c h = let e = wrapped_short Word.partial p d (ascii "]\n") h (omega arith) in omega arith
-  by_short (E.DecoratorBlock d) p c h = let e = wrapped_short Word.decorBlock p d (ascii "[body\n") h (omega arith) in omega arith
-  by_short (E.PartialBlock d) p c h = let e = wrapped_short Word.partialBlock p d (ascii "[body\n") h (omega arith) in omega arith
+  by_short (E.DecoratorBlock d) p c h = let e = wrapped_short Word.decor_block p d (ascii "[body\n") h (omega arith) in omega arith
+  by_short (E.PartialBlock d) p c h = let e = wrapped_short Word.partial_block p d (ascii "[body\n") h (omega arith) in omega arith
 
   pub opening_short : (e : Element) → SmallPlace e.place → length (opening text words e) ≤ 11000000000
   opening_short e h = by_short e.element e.place e.chain h

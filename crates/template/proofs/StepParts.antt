@@ -78,7 +78,7 @@ module _ (t : ℕ) (alone prevent : Bool) where
 
   pub cut_partial : {r : Bool} → t ≡ 14 → r ≡ (alone && not prevent) → CutIs t alone prevent r
   unfolding kinds
-  cut_partial {r} e q = cut_is (holds_at (Cut r) t 14 K.partialExpression refl e q)
+  cut_partial {r} e q = cut_is (holds_at (Cut r) t 14 K.partial_expression refl e q)
 
   pub cut_none : 11 ≤ t → t ≤ 12 → CutIs t alone prevent false
   unfolding kinds
@@ -159,7 +159,7 @@ module _ (s : Span) (x : TagExpression) (mark ind : Bool) where
 
     pub element_10 : s.tag ≡ 10 → ElementIs s x mark ind (E.HelperBlock h)
     unfolding kinds
-    element_10 f = element_at_lem 10 K.invertChainTag refl f (ap E.HelperBlock a)
+    element_10 f = element_at_lem 10 K.invert_chain_tag refl f (ap E.HelperBlock a)
 
     pub element_11 : s.tag ≡ 11 → ElementIs s x mark ind (E.Expression h)
     unfolding kinds
@@ -167,24 +167,24 @@ module _ (s : Span) (x : TagExpression) (mark ind : Bool) where
 
     pub element_12 : s.tag ≡ 12 → ElementIs s x mark ind (E.HtmlExpression h)
     unfolding kinds
-    element_12 f = element_at_lem 12 K.htmlExpression refl f (ap E.HtmlExpression a)
+    element_12 f = element_at_lem 12 K.html_expression refl f (ap E.HtmlExpression a)
 
   module _ {d : DecoratorTemplate} (a : d ≡ decorator_of x s mark ind) where
     pub element_7 : s.tag ≡ 7 → ElementIs s x mark ind (E.DecoratorBlock d)
     unfolding kinds
-    element_7 f = element_at_lem 7 (K.block_start K.decoratorBlock) refl f (ap E.DecoratorBlock a)
+    element_7 f = element_at_lem 7 (K.block_start K.decorator_block) refl f (ap E.DecoratorBlock a)
 
     pub element_8 : s.tag ≡ 8 → ElementIs s x mark ind (E.PartialBlock d)
     unfolding kinds
-    element_8 f = element_at_lem 8 (K.block_start K.partialBlock) refl f (ap E.PartialBlock a)
+    element_8 f = element_at_lem 8 (K.block_start K.partial_block) refl f (ap E.PartialBlock a)
 
     pub element_13 : s.tag ≡ 13 → ElementIs s x mark ind (E.DecoratorExpression d)
     unfolding kinds
-    element_13 f = element_at_lem 13 K.decoratorExpression refl f (ap E.DecoratorExpression a)
+    element_13 f = element_at_lem 13 K.decorator_expression refl f (ap E.DecoratorExpression a)
 
     pub element_14 : s.tag ≡ 14 → ElementIs s x mark ind (E.PartialExpression d)
     unfolding kinds
-    element_14 f = element_at_lem 14 K.partialExpression refl f (ap E.PartialExpression a)
+    element_14 f = element_at_lem 14 K.partial_expression refl f (ap E.PartialExpression a)
 
   pub element_low : s.tag < 5 → ElementIs s x mark ind E.Empty
   element_low h = element_is E.Empty (kind_low (Holds (Elements E.Empty)) s.tag h (λ k. tt))
@@ -204,7 +204,7 @@ module _ (s : Span) (x : TagExpression) (mark ind : Bool) where
       N = Holds (Elements E.Empty) (kind_of s.tag)
 
       nine : s.tag ≡ 9 → Holds (Elements E.Empty) (kind_of s.tag)
-      nine z = holds_at (Elements E.Empty) s.tag 9 K.invertTag refl z refl
+      nine z = holds_at (Elements E.Empty) s.tag 9 K.invert_tag refl z refl
 
 pub last_start : {t : ℕ} → 5 ≤ t → t ≤ 8 → (t ≡ 5 → ⊥) → (t ≡ 6 → ⊥) → (t ≡ 7 → ⊥) → t ≡ 8
 last_start l u a b c = omega arith
@@ -222,19 +222,19 @@ module _ (t : ℕ) where
 
   pub begin_5 : t ≡ 5 → BeginIs t O.Helper
   unfolding kinds
-  begin_5 f = begin_at 5 K.helperBlock refl f
+  begin_5 f = begin_at 5 K.helper_block refl f
 
   pub begin_6 : t ≡ 6 → BeginIs t O.Raw
   unfolding kinds
-  begin_6 f = begin_at 6 K.rawBlock refl f
+  begin_6 f = begin_at 6 K.raw_block refl f
 
   pub begin_7 : t ≡ 7 → BeginIs t O.Decorator
   unfolding kinds
-  begin_7 f = begin_at 7 K.decoratorBlock refl f
+  begin_7 f = begin_at 7 K.decorator_block refl f
 
   pub begin_8 : t ≡ 8 → BeginIs t O.Partial
   unfolding kinds
-  begin_8 f = begin_at 8 K.partialBlock refl f
+  begin_8 f = begin_at 8 K.partial_block refl f
 
   module _ (e : Element) where
     abbrev Acts : Act → Tag → Type 0
@@ -245,19 +245,19 @@ module _ (t : ℕ) where
 
     pub act_begin : {o : Opened} → 5 ≤ t → t ≤ 8 → BeginIs t o → ActIs t e (A.Add e (N.Block o))
     unfolding kinds
-    act_begin {o} l u b = act_is (A.Add e (N.Block o)) (either P t 5 l (λ c. ap (λ o. A.Add e (N.Block o)) (c.means K.helperBlock refl)) (λ l. either P t 6 l (λ c. ap (λ o. A.Add e (N.Block o)) (c.means K.rawBlock refl))
-        (λ l. either P t 7 l (λ c. ap (λ o. A.Add e (N.Block o)) (c.means K.decoratorBlock refl)) (λ l. either P t 8 l (λ c. ap (λ o. A.Add e (N.Block o)) (c.means K.partialBlock refl)) (λ l. absurd (omega arith))))) b)
+    act_begin {o} l u b = act_is (A.Add e (N.Block o)) (either P t 5 l (λ c. ap (λ o. A.Add e (N.Block o)) (c.means K.helper_block refl)) (λ l. either P t 6 l (λ c. ap (λ o. A.Add e (N.Block o)) (c.means K.raw_block refl))
+        (λ l. either P t 7 l (λ c. ap (λ o. A.Add e (N.Block o)) (c.means K.decorator_block refl)) (λ l. either P t 8 l (λ c. ap (λ o. A.Add e (N.Block o)) (c.means K.partial_block refl)) (λ l. absurd (omega arith))))) b)
       where
         P : ℕ → Type 0
         P n = BeginIs n o → Holds (Acts (A.Add e (N.Block o))) (kind_of n)
 
     pub act_9 : t ≡ 9 → ActIs t e A.Else
     unfolding kinds
-    act_9 f = act_is A.Else (holds_at (Acts A.Else) t 9 K.invertTag refl f refl)
+    act_9 f = act_is A.Else (holds_at (Acts A.Else) t 9 K.invert_tag refl f refl)
 
     pub act_10 : t ≡ 10 → ActIs t e (A.Add e N.ElseIf)
     unfolding kinds
-    act_10 f = act_is (A.Add e N.ElseIf) (holds_at (Acts (A.Add e N.ElseIf)) t 10 K.invertChainTag refl f refl)
+    act_10 f = act_is (A.Add e N.ElseIf) (holds_at (Acts (A.Add e N.ElseIf)) t 10 K.invert_chain_tag refl f refl)
 
     pub act_add : 11 ≤ t → t ≤ 14 → ActIs t e (A.Add e N.Leaf)
     act_add l u = act_is (A.Add e N.Leaf) (kind_leaf (Holds (Acts (A.Add e N.Leaf))) t l u refl refl refl refl)
@@ -274,7 +274,7 @@ module _ (t : ℕ) (prevent left : Bool) where
 
   pub indent_14 : {r : Bool} → t ≡ 14 → r ≡ (not prevent && not left) → IndentIs t prevent left r
   unfolding kinds
-  indent_14 {r} f q = indent_is (holds_at (Indents r) t 14 K.partialExpression refl f q)
+  indent_14 {r} f q = indent_is (holds_at (Indents r) t 14 K.partial_expression refl f q)
 
   pub indent_none : (t ≡ 14 → ⊥) → IndentIs t prevent left false
   unfolding kinds

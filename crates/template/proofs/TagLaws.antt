@@ -18,7 +18,7 @@ use Rattle.expression.specs.declared.parameter.ExpressionRead.TheVariants as Exp
 use Rattle.expression.specs.declared.parameter.TildeRead.TheVariants as TildeRead
 use Rattle.expression.specs.declared.parameter.ParamRead.TheVariants as ParamRead
 use Rattle.expression.proofs.Judged.{expression_again}
-use Rattle.template.specs.Kind.{Tag, block_start, invertTag, invertChainTag, expression, htmlExpression, decoratorExpression, partialExpression, block_end, tagged, kinds, kind_of}
+use Rattle.template.specs.Kind.{Tag, block_start, invert_tag, invert_chain_tag, expression, html_expression, decorator_expression, partial_expression, block_end, tagged, kinds, kind_of}
 use Rattle.template.specs.TagExpression.{with_omit_pre_ws, read_own, read_chain, read_tag}
 use Rattle.template.specs.TagRead.{TagReadMeans, OwnReadIs, TagReadIs}
 use Rattle.template.specs.declared.tag.TagRead.{TagRead}
@@ -54,8 +54,8 @@ module _ (text : Bytes) (words : List ℕ) (s : Span) where
   unfolding kinds
   chain_is {r} e h = record {
     means = λ k f.
-        let g : tagged invertChainTag ≡ tagged k = subst (λ n. kind_of n ≡ tagged k) e f in
-        let i : invertChainTag ≡ k = cc in
+        let g : tagged invert_chain_tag ≡ tagged k = subst (λ n. kind_of n ≡ tagged k) e f in
+        let i : invert_chain_tag ≡ k = cc in
         subst (λ j. TagReadMeans text words (read_tag text j s (spans_from words (s.number + 1))) s.end (s.number + 1) r) i h;
   }
 
@@ -87,12 +87,12 @@ module _ (text : Bytes) (words : List ℕ) (s : Span) where
   -- any other tag reads its own expression
   other_own : (k : Tag) → (s.tag ≡ 10 → ⊥) → kind_of s.tag ≡ tagged k → (o : Read Expression → Type 0) → o (read_own text s (spans_from words (s.number + 1))) → o (read_tag text k s (spans_from words (s.number + 1)))
   other_own (block_start k) n e o h = h
-  other_own invertTag n e o h = h
-  other_own invertChainTag n e o h = absurd (n (chain_tag s.tag e))
+  other_own invert_tag n e o h = h
+  other_own invert_chain_tag n e o h = absurd (n (chain_tag s.tag e))
   other_own expression n e o h = h
-  other_own htmlExpression n e o h = h
-  other_own decoratorExpression n e o h = h
-  other_own partialExpression n e o h = h
+  other_own html_expression n e o h = h
+  other_own decorator_expression n e o h = h
+  other_own partial_expression n e o h = h
   other_own (block_end k) n e o h = h
 
   as_it_is : (o : Read Expression) → mapped (with_omit_pre_ws false) o ≡ o

@@ -64,12 +64,12 @@ module _ (text : Bytes) (prevent is_partial : Bool) (s : Span) (g : S.Stage) (t 
   tested : (k : Tag) → standalone_of text prevent is_partial k s (state g t u e w l) ≡ state g (trimmed (cut_of k alone prevent)) u e w (line_of k alone l)
   unfolding standalone_of
   tested (K.block_start k) = by_test true alone (and_yes alone)
-  tested K.invertTag = by_test true alone (and_yes alone)
-  tested K.invertChainTag = by_test true alone (and_yes alone)
+  tested K.invert_tag = by_test true alone (and_yes alone)
+  tested K.invert_chain_tag = by_test true alone (and_yes alone)
   tested K.expression = refl
-  tested K.htmlExpression = refl
-  tested K.decoratorExpression = by_test true alone (and_yes alone)
-  tested K.partialExpression = by_test (not prevent) (alone && not prevent) refl
+  tested K.html_expression = refl
+  tested K.decorator_expression = by_test true alone (and_yes alone)
+  tested K.partial_expression = by_test (not prevent) (alone && not prevent) refl
   tested (K.block_end k) = by_test true alone (and_yes alone)
 
 module _ (text : Bytes) (prevent is_partial : Bool) (s : Span) where
@@ -124,23 +124,23 @@ root_no_kind k e = let z : ◌≡◌ {A = ℕ} 0 1 = cc in omega arith
 pub tag_gapless : (k : Tag) (gap : Bool) (st : State) → tag_nests k gap st ≡ true → st.stage ≡ S.waiting → owner st ≡ S.root → gap ≡ false
 unfolding tag_nests
 tag_gapless (K.block_start k) gap st n w r = none_waits w n
-tag_gapless K.invertTag gap st n w r = none_waits w (and_left (is_filling st.stage) _ n)
-tag_gapless K.invertChainTag gap st n w r = none_waits w (and_left (is_filling st.stage) _ n)
+tag_gapless K.invert_tag gap st n w r = none_waits w (and_left (is_filling st.stage) _ n)
+tag_gapless K.invert_chain_tag gap st n w r = none_waits w (and_left (is_filling st.stage) _ n)
 tag_gapless K.expression gap st n w r = none_waits w n
-tag_gapless K.htmlExpression gap st n w r = none_waits w n
-tag_gapless K.decoratorExpression gap st n w r = none_waits w n
-tag_gapless K.partialExpression gap st n w r = none_waits w n
+tag_gapless K.html_expression gap st n w r = none_waits w n
+tag_gapless K.decorator_expression gap st n w r = none_waits w n
+tag_gapless K.partial_expression gap st n w r = none_waits w n
 tag_gapless (K.block_end k) gap st n w r = absurd (root_no_kind k (ap (is_of_kind k) (sym r) ∙ and_left (is_of_kind k (owner st)) _ n))
 
 -- what a tag asks of the state behind its gap and trims
 abbrev Ready : Tag → S.Stage → Level → List Level → Type 0
 Ready (K.block_start k) g t u = Unit {0}
-Ready K.invertTag g t u = Unit {0}
-Ready K.invertChainTag g t u = Unit {0}
+Ready K.invert_tag g t u = Unit {0}
+Ready K.invert_chain_tag g t u = Unit {0}
 Ready K.expression g t u = g ≡ S.filling
-Ready K.htmlExpression g t u = g ≡ S.filling
-Ready K.decoratorExpression g t u = g ≡ S.filling
-Ready K.partialExpression g t u = g ≡ S.filling
+Ready K.html_expression g t u = g ≡ S.filling
+Ready K.decorator_expression g t u = g ≡ S.filling
+Ready K.partial_expression g t u = g ≡ S.filling
 Ready (K.block_end k) g t u = (owner_of t ≡ S.root → ⊥) × (u ≡ [] → ⊥)
 
 module _ (text : Bytes) (words : List ℕ) (prevent is_partial : Bool) (s : Span) (x : TagExpression) {p : code.Place} (q : place_of p ≡ place_at text s.start)
@@ -168,17 +168,17 @@ module _ (text : Bytes) (words : List ℕ) (prevent is_partial : Bool) (s : Span
 
     pub acts : (k : Tag) → ind ≡ indent_of k prevent x.omit_pre_ws → stage_means m.stage ≡ stage_behind k → Ready k g t u → Acts k
     unfolding tag_effect owner_for open_block with_marks item_means head_means wrap_means
-    acts (K.block_start K.helperBlock) i h y = state_as (sym h) (cc (q, r)) refl (sym e) refl refl
-    acts (K.block_start K.rawBlock) i h y = state_as (sym h) (cc (q, r)) refl (sym e) refl refl
-    acts (K.block_start K.decoratorBlock) i h y = state_as (sym h) (cc (q, r, no_indent i)) refl (sym e) refl refl
-    acts (K.block_start K.partialBlock) i h y = state_as (sym h) (cc (q, r, no_indent i)) refl (sym e) refl refl
-    acts K.invertTag i h y = state_as (sym h) refl refl (sym e) refl refl
-    acts K.invertChainTag i h y =
+    acts (K.block_start K.helper_block) i h y = state_as (sym h) (cc (q, r)) refl (sym e) refl refl
+    acts (K.block_start K.raw_block) i h y = state_as (sym h) (cc (q, r)) refl (sym e) refl refl
+    acts (K.block_start K.decorator_block) i h y = state_as (sym h) (cc (q, r, no_indent i)) refl (sym e) refl refl
+    acts (K.block_start K.partial_block) i h y = state_as (sym h) (cc (q, r, no_indent i)) refl (sym e) refl refl
+    acts K.invert_tag i h y = state_as (sym h) refl refl (sym e) refl refl
+    acts K.invert_chain_tag i h y =
         state_as (sym h) (ap (λ z. next_branch (T.head (call_at text words x.from s.end) (block_at text words x.from s.end) z) t) (sym r)) refl (sym e) refl refl
     acts K.expression i h y = state_as (y ∙ sym h) (ap (λ z. add_to (item z (T.expr (call_at text words x.from s.end) (block_at text words x.from s.end))) t) (sym q)) refl (sym e) refl refl
-    acts K.htmlExpression i h y = state_as (y ∙ sym h) (ap (λ z. add_to (item z (T.html (call_at text words x.from s.end) (block_at text words x.from s.end))) t) (sym q)) refl (sym e) refl refl
-    acts K.decoratorExpression i h y = state_as (y ∙ sym h) (ap (λ z. add_to z t) (cc (q, r, no_indent i))) refl (sym e) refl refl
-    acts K.partialExpression i h y = state_as (y ∙ sym h) (ap (λ z. add_to z t) (cc (q, r, indent_as i))) refl (sym e) refl refl
+    acts K.html_expression i h y = state_as (y ∙ sym h) (ap (λ z. add_to (item z (T.html (call_at text words x.from s.end) (block_at text words x.from s.end))) t) (sym q)) refl (sym e) refl refl
+    acts K.decorator_expression i h y = state_as (y ∙ sym h) (ap (λ z. add_to z t) (cc (q, r, no_indent i))) refl (sym e) refl refl
+    acts K.partial_expression i h y = state_as (y ∙ sym h) (ap (λ z. add_to z t) (cc (q, r, indent_as i))) refl (sym e) refl refl
     acts (K.block_end k) i h y = closed t u y.0 y.1 g a f b m.omit_pro_ws m.trim_line_required c d n m h e refl refl
 
 -- ---- the step
@@ -213,12 +213,12 @@ module _ (text : Bytes) (words : List ℕ) (o : Options) (v : View) (s : Span) (
         → (k : Tag) → tag_nests k gap st ≡ true → Ready k (stage_means g) (trim_last f (gap_effect text words gap e st).top) st.outer
     unfolding tag_nests
     ready g e f i (K.block_start k) n = tt
-    ready g e f i K.invertTag n = tt
-    ready g e f i K.invertChainTag n = tt
+    ready g e f i K.invert_tag n = tt
+    ready g e f i K.invert_chain_tag n = tt
     ready g e f i K.expression n = still_filling gap i (h.tells.marks.stage ∙ filling st.stage n)
-    ready g e f i K.htmlExpression n = still_filling gap i (h.tells.marks.stage ∙ filling st.stage n)
-    ready g e f i K.decoratorExpression n = still_filling gap i (h.tells.marks.stage ∙ filling st.stage n)
-    ready g e f i K.partialExpression n = still_filling gap i (h.tells.marks.stage ∙ filling st.stage n)
+    ready g e f i K.html_expression n = still_filling gap i (h.tells.marks.stage ∙ filling st.stage n)
+    ready g e f i K.decorator_expression n = still_filling gap i (h.tells.marks.stage ∙ filling st.stage n)
+    ready g e f i K.partial_expression n = still_filling gap i (h.tells.marks.stage ∙ filling st.stage n)
     ready g e f i (K.block_end k) n =
         let r = not_root k n in
         (λ z. r (sym (gap_owner gap e st) ∙ sym (trim_owner f (gap_effect text words gap e st).top) ∙ z), λ z. r (h.tells.outermost z))
@@ -229,16 +229,16 @@ module _ (text : Bytes) (words : List ℕ) (o : Options) (v : View) (s : Span) (
     may : (mark ind : Bool) (k : Tag) → tag_nests k gap st ≡ true → too_many_open k st ≡ false
         → as_name (param_means text words x.name) ≡ name_of (call_at text words x.from s.end) → Allowed text words (act_for k (named_element (element_for k s x mark ind) x.name here.place)) st
     unfolding tag_nests wrap_means
-    may mark ind (K.block_start K.helperBlock) n c q = (made text words (E.HelperBlock (helper_of x s mark)) x.name here.place (place_some text s.start h.place) q, fewer c)
-    may mark ind (K.block_start K.rawBlock) n c q = (made text words (E.HelperBlock (helper_of x s mark)) x.name here.place (place_some text s.start h.place) q, fewer c)
-    may mark ind (K.block_start K.decoratorBlock) n c q = (made text words (E.DecoratorBlock (decorator_of x s mark ind)) x.name here.place (place_some text s.start h.place) q, refl, fewer c)
-    may mark ind (K.block_start K.partialBlock) n c q = (made text words (E.PartialBlock (decorator_of x s mark ind)) x.name here.place (place_some text s.start h.place) q, refl, fewer c)
-    may mark ind K.invertTag n c q = and_right (is_filling st.stage) _ n
-    may mark ind K.invertChainTag n c q = (made text words (E.HelperBlock (helper_of x s mark)) x.name here.place (place_some text s.start h.place) q, and_right (is_filling st.stage) _ n, fewer c)
+    may mark ind (K.block_start K.helper_block) n c q = (made text words (E.HelperBlock (helper_of x s mark)) x.name here.place (place_some text s.start h.place) q, fewer c)
+    may mark ind (K.block_start K.raw_block) n c q = (made text words (E.HelperBlock (helper_of x s mark)) x.name here.place (place_some text s.start h.place) q, fewer c)
+    may mark ind (K.block_start K.decorator_block) n c q = (made text words (E.DecoratorBlock (decorator_of x s mark ind)) x.name here.place (place_some text s.start h.place) q, refl, fewer c)
+    may mark ind (K.block_start K.partial_block) n c q = (made text words (E.PartialBlock (decorator_of x s mark ind)) x.name here.place (place_some text s.start h.place) q, refl, fewer c)
+    may mark ind K.invert_tag n c q = and_right (is_filling st.stage) _ n
+    may mark ind K.invert_chain_tag n c q = (made text words (E.HelperBlock (helper_of x s mark)) x.name here.place (place_some text s.start h.place) q, and_right (is_filling st.stage) _ n, fewer c)
     may mark ind K.expression n c q = made text words (E.Expression (helper_of x s mark)) x.name here.place (place_some text s.start h.place) tt
-    may mark ind K.htmlExpression n c q = made text words (E.HtmlExpression (helper_of x s mark)) x.name here.place (place_some text s.start h.place) tt
-    may mark ind K.decoratorExpression n c q = made text words (E.DecoratorExpression (decorator_of x s mark ind)) x.name here.place (place_some text s.start h.place) tt
-    may mark ind K.partialExpression n c q = made text words (E.PartialExpression (decorator_of x s mark ind)) x.name here.place (place_some text s.start h.place) tt
+    may mark ind K.html_expression n c q = made text words (E.HtmlExpression (helper_of x s mark)) x.name here.place (place_some text s.start h.place) tt
+    may mark ind K.decorator_expression n c q = made text words (E.DecoratorExpression (decorator_of x s mark ind)) x.name here.place (place_some text s.start h.place) tt
+    may mark ind K.partial_expression n c q = made text words (E.PartialExpression (decorator_of x s mark ind)) x.name here.place (place_some text s.start h.place) tt
     may mark ind (K.block_end k) n c q = not_root k n
 
   module _ (g : Stage) (gap : Bool) {l : Bool} {e : Element} (new : e ≡ new_element (E.RawString (gap_text words marks s)) here.place)

@@ -253,7 +253,7 @@ module _ (text : Bytes) (words : List ℕ) (o : Options) (v : View) (s : Span) (
           as_new = n ∙ ap (λ z. new_element z here.place) (sym element)
 
           go : (b : Bool) → eqb s.tag 19 ≡ b → KindIs text words o v s gap here (Vis.Step comment_step)
-          go true e = comment_is K.commentCompact (comment_compact_text (own text s)) (ap kind_of (eqb-true s.tag 19 e)) (λ st. refl) (λ st. refl) (λ st. refl)
+          go true e = comment_is K.comment_compact (comment_compact_text (own text s)) (ap kind_of (eqb-true s.tag 19 e)) (λ st. refl) (λ st. refl) (λ st. refl)
               (rw (element, c, e)) as_new (ap role_of element) (subst (λ z. Sound text words y.name z) (sym element) tt)
           go false e =
               let n = eqb-false s.tag 19 e in
@@ -308,8 +308,8 @@ module _ (text : Bytes) (words : List ℕ) (o : Options) (v : View) (s : Span) (
     unfolding K.kinds plain_step applied with_marks
     raw_step {gap} e b c = record {
       means = λ st h. record {
-        makes = plain_makes K.rawBlockText (ap kind_of e) st (ap (λ z. bad_escapes text z (own_escapes words s)) (sym b) ∙ c)
-            (state_as refl (ap (λ z. add_to z st.top) (sym (text_leaf K.rawBlockText h.place h.tells.marks b)) ∙ ap (add_to (leaf_means text words y)) (sym (trim_kept st.top))) refl refl (sym h.tells.marks.omit_pro_ws) (sym h.tells.marks.trim_line));
+        makes = plain_makes K.raw_block_text (ap kind_of e) st (ap (λ z. bad_escapes text z (own_escapes words s)) (sym b) ∙ c)
+            (state_as refl (ap (λ z. add_to z st.top) (sym (text_leaf K.raw_block_text h.place h.tells.marks b)) ∙ ap (add_to (leaf_means text words y)) (sym (trim_kept st.top))) refl refl (sym h.tells.marks.omit_pro_ws) (sym h.tells.marks.trim_line));
         gap = tt;
         act = text_made h (omega (arith, b, h.fits.order)) (ap (is_char_boundary text) b ∙ h.fits.starts) c;
         gapless = λ w r. refl;
@@ -328,4 +328,4 @@ module _ (text : Bytes) (words : List ℕ) (o : Options) (v : View) (s : Span) (
   pub raw_bad : {gap : Bool} {r : Visit} (start : ℕ) → s.tag ≡ 3 → start ≡ s.start → bad_escapes text start (own_escapes words s) ≡ true
       → r ≡ Vis.Refused (record { number = 13; place = s.number }) → KindIs text words o v s gap here r
   unfolding K.kinds
-  raw_bad start e b c q = kind_refused q (λ st h. plain_refused K.rawBlockText (ap kind_of e) st (ap (λ z. bad_escapes text z (own_escapes words s)) (sym b) ∙ c))
+  raw_bad start e b c q = kind_refused q (λ st h. plain_refused K.raw_block_text (ap kind_of e) st (ap (λ z. bad_escapes text z (own_escapes words s)) (sym b) ∙ c))

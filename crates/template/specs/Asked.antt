@@ -5,7 +5,7 @@ use Rattle.json_path.specs.Span.{Span}
 use Rattle.expression.specs.Expression.{Expression, name_of}
 use Rattle.expression.specs.Answers.{as_name_means}
 use Rattle.expression.specs.declared.parameter.AsName.{AsName}
-use Rattle.template.specs.Kind.{BlockKind, helperBlock, rawBlock, decoratorBlock, partialBlock, Tag, tagged, kind_of}
+use Rattle.template.specs.Kind.{BlockKind, helper_block, raw_block, decorator_block, partial_block, Tag, tagged, kind_of}
 use Rattle.template.specs.State.{Owner, State, owner, opened_name, open_count}
 use Rattle.template.specs.Nests.{kept_gap, is_raw, takes_else, is_of_kind, nests}
 use Rattle.template.specs.Refusal.{too_many_open, helper_name_differs, decorator_name_differs}
@@ -27,10 +27,10 @@ pub record TakesIs (o : Opened) (i : Bool) (r : Bool) : Type 0 where
 
 -- the tag that ends a block of this kind
 abbrev pub end_tag : BlockKind → ℕ
-end_tag helperBlock = 15
-end_tag rawBlock = 16
-end_tag decoratorBlock = 17
-end_tag partialBlock = 18
+end_tag helper_block = 15
+end_tag raw_block = 16
+end_tag decorator_block = 17
+end_tag partial_block = 18
 
 pub record OfKindIs (tag : ℕ) (o : Opened) (r : Bool) : Type 0 where
   pub means : (k : BlockKind) (i : Bool) (w : Owner) → end_tag k ≡ tag → OpenedIs o i w → r ≡ is_of_kind k w

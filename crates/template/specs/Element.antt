@@ -111,18 +111,18 @@ module _ (text : Bytes) (words : List ℕ) where
 
   -- the head of a decorator block or a partial block
   abbrev pub decor_at : DecoratorTemplate → Wrap
-  decor_at d = T.decorBlock d.indent_before_write (indent_means d) (call_at d.from d.limit)
+  decor_at d = T.decor_block d.indent_before_write (indent_means d) (call_at d.from d.limit)
 
   abbrev pub partial_at : DecoratorTemplate → Wrap
-  partial_at d = T.partialBlock d.indent_before_write (indent_means d) (call_at d.from d.limit)
+  partial_at d = T.partial_block d.indent_before_write (indent_means d) (call_at d.from d.limit)
 
   unfoldable pub wrap_means : TemplateElement → Wrap
-  wrap_means E.Empty = T.decorBlock false none (call_at 0 0)
-  wrap_means (E.RawString r) = T.decorBlock false none (call_at 0 0)
-  wrap_means (E.Comment c) = T.decorBlock false none (call_at 0 0)
-  wrap_means (E.Expression h) = T.decorBlock false none (call_at 0 0)
-  wrap_means (E.HtmlExpression h) = T.decorBlock false none (call_at 0 0)
-  wrap_means (E.HelperBlock h) = T.decorBlock false none (call_at 0 0)
+  wrap_means E.Empty = T.decor_block false none (call_at 0 0)
+  wrap_means (E.RawString r) = T.decor_block false none (call_at 0 0)
+  wrap_means (E.Comment c) = T.decor_block false none (call_at 0 0)
+  wrap_means (E.Expression h) = T.decor_block false none (call_at 0 0)
+  wrap_means (E.HtmlExpression h) = T.decor_block false none (call_at 0 0)
+  wrap_means (E.HelperBlock h) = T.decor_block false none (call_at 0 0)
   wrap_means (E.DecoratorExpression d) = decor_at d
   wrap_means (E.PartialExpression d) = partial_at d
   wrap_means (E.DecoratorBlock d) = decor_at d

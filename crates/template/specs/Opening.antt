@@ -5,7 +5,7 @@ use Rattle.std.proofs.Math.Option.{Option}
 use Rattle.support.specs.Bytes.{Bytes, ascii}
 use Rattle.support.specs.Position.{Place}
 use Rattle.listing.specs.Form.{Word, Field, write_field, write_head, nil, write_form, write_forms}
-use Rattle.listing.specs.Tree.{Wrap, decorBlock, partialBlock, Head, head}
+use Rattle.listing.specs.Tree.{Wrap, decor_block, partial_block, Head, head}
 use Rattle.listing.specs.Listing.{bit, place_field, indent_field, call_forms, block_param_forms, item_form}
 use Rattle.listing.specs.Children.{decorator_children}
 use Rattle.template.specs.Element.{place_means, link_of, indent_means, item_means, head_means, wrap_means, Role, leaf, helper, wrapper, nothing, role_of}
@@ -20,8 +20,8 @@ block_opening p c (head x a i) = write_head Word.block (p ∷ bit c ∷ bit i �
 
 -- the same of a decorator block and of a partial block
 unfoldable pub wrap_opening : Field → Wrap → Bytes
-wrap_opening p (decorBlock i d c) = write_head Word.decorBlock (p ∷ bit i ∷ indent_field d ∷ []) ++ (ascii "\n" ++ (write_forms (call_forms c nil) ++ ascii "[body\n"))
-wrap_opening p (partialBlock i d c) = write_head Word.partialBlock (p ∷ bit i ∷ indent_field d ∷ []) ++ (ascii "\n" ++ (write_forms (call_forms c nil) ++ ascii "[body\n"))
+wrap_opening p (decor_block i d c) = write_head Word.decor_block (p ∷ bit i ∷ indent_field d ∷ []) ++ (ascii "\n" ++ (write_forms (call_forms c nil) ++ ascii "[body\n"))
+wrap_opening p (partial_block i d c) = write_head Word.partial_block (p ∷ bit i ∷ indent_field d ∷ []) ++ (ascii "\n" ++ (write_forms (call_forms c nil) ++ ascii "[body\n"))
 
 module _ (text : Bytes) (words : List ℕ) where
   -- a decorator or a partial between its word and its end or its body

@@ -74,13 +74,13 @@ OpenedIs O.Raw i (S.wrapper p w) = ⊥
 OpenedIs O.Decorator i S.root = ⊥
 OpenedIs O.Decorator i (S.helper raw p done h) = ⊥
 OpenedIs O.Decorator i (S.in_else p h b done) = ⊥
-OpenedIs O.Decorator i (S.wrapper p (T.decorBlock m d c)) = i ≡ false
-OpenedIs O.Decorator i (S.wrapper p (T.partialBlock m d c)) = ⊥
+OpenedIs O.Decorator i (S.wrapper p (T.decor_block m d c)) = i ≡ false
+OpenedIs O.Decorator i (S.wrapper p (T.partial_block m d c)) = ⊥
 OpenedIs O.Partial i S.root = ⊥
 OpenedIs O.Partial i (S.helper raw p done h) = ⊥
 OpenedIs O.Partial i (S.in_else p h b done) = ⊥
-OpenedIs O.Partial i (S.wrapper p (T.decorBlock m d c)) = ⊥
-OpenedIs O.Partial i (S.wrapper p (T.partialBlock m d c)) = i ≡ false
+OpenedIs O.Partial i (S.wrapper p (T.decor_block m d c)) = ⊥
+OpenedIs O.Partial i (S.wrapper p (T.partial_block m d c)) = i ≡ false
 
 -- the place found last is not behind the previous end, which stands between two characters
 pub record HereIs (text : Bytes) (h : Here) (end : ℕ) : Type 0 where

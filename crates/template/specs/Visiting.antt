@@ -147,34 +147,34 @@ trim_of left cut = if left Back.White (if cut Back.Blanks Back.Kept)
 -- the standalone test cuts the last blanks
 abbrev pub cut_of : Tag → Bool → Bool → Bool
 cut_of (K.block_start k) alone prevent = alone
-cut_of K.invertTag alone prevent = alone
-cut_of K.invertChainTag alone prevent = alone
+cut_of K.invert_tag alone prevent = alone
+cut_of K.invert_chain_tag alone prevent = alone
 cut_of K.expression alone prevent = false
-cut_of K.htmlExpression alone prevent = false
-cut_of K.decoratorExpression alone prevent = alone
-cut_of K.partialExpression alone prevent = alone && not prevent
+cut_of K.html_expression alone prevent = false
+cut_of K.decorator_expression alone prevent = alone
+cut_of K.partial_expression alone prevent = alone && not prevent
 cut_of (K.block_end k) alone prevent = alone
 
 -- the line mark behind a tag
 abbrev pub line_of : Tag → Bool → Bool → Bool
 line_of (K.block_start k) alone line = alone
-line_of K.invertTag alone line = alone
-line_of K.invertChainTag alone line = alone
+line_of K.invert_tag alone line = alone
+line_of K.invert_chain_tag alone line = alone
 line_of K.expression alone line = line
-line_of K.htmlExpression alone line = line
-line_of K.decoratorExpression alone line = alone
-line_of K.partialExpression alone line = alone
+line_of K.html_expression alone line = line
+line_of K.decorator_expression alone line = alone
+line_of K.partial_expression alone line = alone
 line_of (K.block_end k) alone line = alone
 
 -- block starts and else tags wait for a body
 abbrev pub stage_behind : Tag → S.Stage
 stage_behind (K.block_start k) = S.waiting
-stage_behind K.invertTag = S.waiting
-stage_behind K.invertChainTag = S.waiting
+stage_behind K.invert_tag = S.waiting
+stage_behind K.invert_chain_tag = S.waiting
 stage_behind K.expression = S.filling
-stage_behind K.htmlExpression = S.filling
-stage_behind K.decoratorExpression = S.filling
-stage_behind K.partialExpression = S.filling
+stage_behind K.html_expression = S.filling
+stage_behind K.decorator_expression = S.filling
+stage_behind K.partial_expression = S.filling
 stage_behind (K.block_end k) = S.filling
 
 -- the link to the expression of a tag that has read x
@@ -186,45 +186,45 @@ decorator_of x s mark indent = record { from = x.from; limit = s.end; indent_bef
 
 -- the element that a tag makes that has read x
 abbrev pub element_for : Tag → Span → TagExpression → Bool → Bool → TemplateElement
-element_for (K.block_start K.helperBlock) s x mark indent = E.HelperBlock (helper_of x s mark)
-element_for (K.block_start K.rawBlock) s x mark indent = E.HelperBlock (helper_of x s mark)
-element_for (K.block_start K.decoratorBlock) s x mark indent = E.DecoratorBlock (decorator_of x s mark indent)
-element_for (K.block_start K.partialBlock) s x mark indent = E.PartialBlock (decorator_of x s mark indent)
-element_for K.invertTag s x mark indent = E.Empty
-element_for K.invertChainTag s x mark indent = E.HelperBlock (helper_of x s mark)
+element_for (K.block_start K.helper_block) s x mark indent = E.HelperBlock (helper_of x s mark)
+element_for (K.block_start K.raw_block) s x mark indent = E.HelperBlock (helper_of x s mark)
+element_for (K.block_start K.decorator_block) s x mark indent = E.DecoratorBlock (decorator_of x s mark indent)
+element_for (K.block_start K.partial_block) s x mark indent = E.PartialBlock (decorator_of x s mark indent)
+element_for K.invert_tag s x mark indent = E.Empty
+element_for K.invert_chain_tag s x mark indent = E.HelperBlock (helper_of x s mark)
 element_for K.expression s x mark indent = E.Expression (helper_of x s mark)
-element_for K.htmlExpression s x mark indent = E.HtmlExpression (helper_of x s mark)
-element_for K.decoratorExpression s x mark indent = E.DecoratorExpression (decorator_of x s mark indent)
-element_for K.partialExpression s x mark indent = E.PartialExpression (decorator_of x s mark indent)
+element_for K.html_expression s x mark indent = E.HtmlExpression (helper_of x s mark)
+element_for K.decorator_expression s x mark indent = E.DecoratorExpression (decorator_of x s mark indent)
+element_for K.partial_expression s x mark indent = E.PartialExpression (decorator_of x s mark indent)
 element_for (K.block_end k) s x mark indent = E.Empty
 
 -- whose body a block start opens
 abbrev pub begin_of : K.BlockKind → Opened
-begin_of K.helperBlock = O.Helper
-begin_of K.rawBlock = O.Raw
-begin_of K.decoratorBlock = O.Decorator
-begin_of K.partialBlock = O.Partial
+begin_of K.helper_block = O.Helper
+begin_of K.raw_block = O.Raw
+begin_of K.decorator_block = O.Decorator
+begin_of K.partial_block = O.Partial
 
 -- what a tag does with its element after its gap and trims
 abbrev pub act_for : Tag → Element → Act
 act_for (K.block_start k) e = A.Add e (N.Block (begin_of k))
-act_for K.invertTag e = A.Else
-act_for K.invertChainTag e = A.Add e N.ElseIf
+act_for K.invert_tag e = A.Else
+act_for K.invert_chain_tag e = A.Add e N.ElseIf
 act_for K.expression e = A.Add e N.Leaf
-act_for K.htmlExpression e = A.Add e N.Leaf
-act_for K.decoratorExpression e = A.Add e N.Leaf
-act_for K.partialExpression e = A.Add e N.Leaf
+act_for K.html_expression e = A.Add e N.Leaf
+act_for K.decorator_expression e = A.Add e N.Leaf
+act_for K.partial_expression e = A.Add e N.Leaf
 act_for (K.block_end k) e = A.Close
 
 -- tag 14 keeps the blanks before it as indent, unless it is prevented or there is a left tilde
 abbrev pub indent_of : Tag → Bool → Bool → Bool
 indent_of (K.block_start k) prevent left = false
-indent_of K.invertTag prevent left = false
-indent_of K.invertChainTag prevent left = false
+indent_of K.invert_tag prevent left = false
+indent_of K.invert_chain_tag prevent left = false
 indent_of K.expression prevent left = false
-indent_of K.htmlExpression prevent left = false
-indent_of K.decoratorExpression prevent left = false
-indent_of K.partialExpression prevent left = not prevent && not left
+indent_of K.html_expression prevent left = false
+indent_of K.decorator_expression prevent left = false
+indent_of K.partial_expression prevent left = not prevent && not left
 indent_of (K.block_end k) prevent left = false
 
 -- r is that of the tag, whatever tag it is

@@ -23,7 +23,7 @@ returns c =
     let if1 = c.before.before.before.before.before.if1 in
     let hbs-comment-compact-text = c.before.before.before.hbs-comment-compact-text in
     let write-quoted = c.before.before.write-quoted in
-    elements.comment_compact args.text.now args.c if1.true part.ensures hbs-comment-compact-text.ensures write-quoted.ensures
+    elements.comment_compact_lem args.text.now args.c if1.true part.ensures hbs-comment-compact-text.ensures write-quoted.ensures
 
 hbs-comment-text-requires : tie.Need-hbs-comment-text-requires
 hbs-comment-text-requires c κs = search rules

@@ -1,0 +1,85 @@
+-- Each answer is the law of its branch, at the values of the tests; in a callee what that ensures comes first.
+use mathlib.Core.Path.{refl, sym, ap, ◌∙◌}
+use lib.Dec.{eqb}
+use Rattle.literal.specs.Means.{str_means}
+use Rattle.literal.specs.Scan.{string_step}
+use Rattle.literal.proofs.ActLaws as act
+use Rattle.literal.proofs.string.string_act.Goals as goal
+
+pub returns-then-n-eq0 : goal.returns-then-n-eq0
+returns-then-n-eq0 c =
+    let a = c.args in
+    let p = c.in-Hex in
+    let x = a.k in let y = a.c in record
+    { acts = λ st. c.hex_act.ensures.acts st ∙ act.hex_last x st y p.given.0.0 c.if-n-eq0.true ∙ ap (λ q. string_step (str_means q) x st y) (sym p.is) }
+
+pub returns-then-n-eq0-2 : goal.returns-then-n-eq0-2
+returns-then-n-eq0-2 c =
+    let a = c.args in
+    let p2 = c.in-High in
+    let x = a.k in let y = a.c in record
+    { acts = λ st. c.hex_act-then-n-eq0-2.ensures.acts st ∙ act.high_last x st y p2.given.0.0 c.if-n-eq0-2.true ∙ ap (λ q. string_step (str_means q) x st y) (sym p2.is) }
+
+pub returns-in-Between : goal.returns-in-Between
+returns-in-Between c =
+    let a = c.args in
+    record
+    { acts = λ st. c.between_act.ensures.acts st ∙ ap (λ q. string_step (str_means q) a.k st a.c) (sym c.in-Between.is) }
+
+pub returns-in-Backslash : goal.returns-in-Backslash
+returns-in-Backslash c =
+    let a = c.args in
+    record
+    { acts = λ st. c.backslash_act.ensures.acts st ∙ ap (λ q. string_step (str_means q) a.k st a.c) (sym c.in-Backslash.is) }
+
+pub returns-in-Unicode : goal.returns-in-Unicode
+returns-in-Unicode c =
+    let a = c.args in
+    record
+    { acts = λ st. c.unicode_act.ensures.acts st ∙ ap (λ q. string_step (str_means q) a.k st a.c) (sym c.in-Unicode.is) }
+
+pub returns-in-AfterD : goal.returns-in-AfterD
+returns-in-AfterD c =
+    let a = c.args in
+    record
+    { acts = λ st. c.after_d_act.ensures.acts st ∙ ap (λ q. string_step (str_means q) a.k st a.c) (sym c.in-AfterD.is) }
+
+pub returns-else-n-eq0 : goal.returns-else-n-eq0
+returns-else-n-eq0 c =
+    let a = c.args in
+    let p = c.in-Hex in
+    let x = a.k in let y = a.c in record
+    { acts = λ st. c.hex_act-in-Hex.ensures.acts st ∙ act.hex_on x st y p.given.0.0 c.if-n-eq0.false ∙ ap (λ q. string_step (str_means q) x st y) (sym p.is) }
+
+pub returns-else-n-eq0-2 : goal.returns-else-n-eq0-2
+returns-else-n-eq0-2 c =
+    let a = c.args in
+    let p2 = c.in-High in
+    let x = a.k in let y = a.c in record
+    { acts = λ st. c.hex_act-in-High.ensures.acts st ∙ act.high_on x st y p2.given.0.0 c.if-n-eq0-2.false ∙ ap (λ q. string_step (str_means q) x st y) (sym p2.is) }
+
+pub returns-in-AfterHigh : goal.returns-in-AfterHigh
+returns-in-AfterHigh c =
+    let a = c.args in
+    let x = a.k in let y = a.c in record
+    { acts = λ st. c.low_act.ensures.acts st ∙ act.at_high x st y (eqb y 92) refl ∙ ap (λ q. string_step (str_means q) x st y) (sym c.in-AfterHigh.is) }
+
+pub returns-in-LowBackslash : goal.returns-in-LowBackslash
+returns-in-LowBackslash c =
+    let a = c.args in
+    let x = a.k in let y = a.c in record
+    { acts = λ st. c.low_act-in-LowBackslash.ensures.acts st ∙ act.at_low_backslash x st y (eqb y 117) refl ∙ ap (λ q. string_step (str_means q) x st y) (sym c.in-LowBackslash.is) }
+
+pub returns-in-LowUnicode : goal.returns-in-LowUnicode
+returns-in-LowUnicode c =
+    let a = c.args in
+    let is-d = c.is_d in
+    let x = a.k in let y = a.c in record
+    { acts = λ st. c.low_act-in-LowUnicode.ensures.acts st ∙ act.at_low_unicode x st y is-d.result (sym is-d.ensures) ∙ ap (λ q. string_step (str_means q) x st y) (sym c.in-LowUnicode.is) }
+
+pub returns-in-LowAfterD : goal.returns-in-LowAfterD
+returns-in-LowAfterD c =
+    let a = c.args in
+    let is-low-second = c.is_low_second in
+    let x = a.k in let y = a.c in record
+    { acts = λ st. c.low_act-in-LowAfterD.ensures.acts st ∙ act.at_low_d x st y is-low-second.result (sym is-low-second.ensures) ∙ ap (λ q. string_step (str_means q) x st y) (sym c.in-LowAfterD.is) }
