@@ -13,7 +13,6 @@ use Rattle.card.specs.Card.{max_bytes, said}
 use Rattle.card.specs.Read.{Read, read, other, read_mark, read_field, Lines, lines, read_lines, read_text, read_card, line_words, line_rest}
 use Rattle.card.specs.Answers.{LineIs, LinesIs, answer_of, words_of, CardIs}
 use Rattle.card.specs.declared.read.Line.{Line}
-use Rattle.card.specs.declared.read.Line.TheVariants as Line
 use Rattle.card.specs.declared.read.SpanLine as declared
 use Rattle.card.specs.declared.read.Lines as declared-lines
 use Rattle.card.specs.declared.read.CardRead.TheVariants as CardRead

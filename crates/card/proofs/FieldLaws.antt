@@ -13,9 +13,7 @@ use Rattle.card.specs.Read.{Read, read, other, and_then, is_number, read_mark, r
 use Rattle.card.specs.Answers.{DigitsIs, FieldIs, LineIs}
 use Rattle.card.specs.declared.number.Digits.{Digits}
 use Rattle.card.specs.declared.read.Field.{Field}
-use Rattle.card.specs.declared.read.Field.TheVariants as Field
 use Rattle.card.specs.declared.read.Line.{Line}
-use Rattle.card.specs.declared.read.Line.TheVariants as Line
 use Rattle.card.proofs.Numbers.{leading_all, few_fit}
 use Rattle.card.proofs.Fields.{field_no, field_yes, line_no_tag, line_no_start, line_no_end, line_yes}
 

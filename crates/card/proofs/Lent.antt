@@ -13,7 +13,6 @@ use Rattle.card.specs.Read.{read_card}
 use Rattle.card.specs.Answers.{Stores, answer_of, words_of, CardIs}
 use Rattle.card.specs.declared.read.Card as declared
 use Rattle.card.specs.declared.read.CardRead.{CardRead}
-use Rattle.card.specs.declared.read.CardRead.TheVariants as CardRead
 use Rattle.card.proofs.Grammar.{read_is_card, words_fit, text_last}
 
 -- c is what s, a card, says, with the words in m, which was l

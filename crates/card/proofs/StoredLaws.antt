@@ -11,7 +11,7 @@ use borrow.Author.Tests.{eq-eqb, ne_eqb}
 use Rattle.support.specs.Bytes.{Bytes, part}
 use Rattle.support.proofs.WhiteLaws.{at_offset}
 use Rattle.card.specs.Number.{leading_digits}
-use Rattle.card.specs.Answers.{DigitsIs, Stores}
+use Rattle.card.specs.Answers.{DigitsIs}
 use Rattle.card.specs.Stored.{first_line, first_number, after_number, numbers_by, numbers, FirstLineIs, WordsIs}
 use Rattle.card.specs.declared.number.Digits.{Digits}
 use Rattle.card.proofs.Numbers.{leading_split}

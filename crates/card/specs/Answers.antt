@@ -8,11 +8,8 @@ use Rattle.card.specs.Card.{Said, said}
 use Rattle.card.specs.Read.{Read, read, other, read_field, read_line, read_lines, line_words, line_rest, read_card}
 use Rattle.card.specs.declared.number.Digits.{Digits}
 use Rattle.card.specs.declared.read.CardRead.{CardRead}
-use Rattle.card.specs.declared.read.CardRead.TheVariants as CardRead
 use Rattle.card.specs.declared.read.Field.{Field}
-use Rattle.card.specs.declared.read.Field.TheVariants as Field
 use Rattle.card.specs.declared.read.Line.{Line}
-use Rattle.card.specs.declared.read.Line.TheVariants as Line
 use Rattle.card.specs.declared.read.Lines as declared
 
 -- ---- numbers

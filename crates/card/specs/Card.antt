@@ -1,6 +1,6 @@
 -- Document 01's trial cards, the input of the program `cardtree`: what bytes are a card, and what it says. How they are read is in
 -- specs/Read.antt; that this is the same, and that one input says one thing at most, is proved in proofs/Grammar.antt.
-use Rattle.std.specs.Prelude.{ℕ, ◌+◌, ◌≤◌, ◌≡◌, true, List, [], ◌∷◌, ◌++◌, length}
+use Rattle.std.specs.Prelude.{ℕ, ◌≤◌, ◌≡◌, true, List, [], ◌∷◌, ◌++◌, length}
 use Rattle.support.specs.Bytes.{Bytes}
 use Rattle.card.specs.Number.{all_digits, decimal}
 

@@ -6,13 +6,10 @@ use Rattle.support.specs.Bytes.{Bytes}
 use Rattle.json_path.specs.Span.{Span, spans_from, escapes_from}
 use Rattle.json_path.specs.Answers.{Walked, NextIs, Escapes, EscapeIs, segments_mean, Segments, SegmentIs}
 use Rattle.json_path.specs.declared.span.Next.{Next}
-use Rattle.json_path.specs.declared.span.Next.TheVariants as Next
 use Rattle.json_path.specs.declared.span.Escape.{Escape}
-use Rattle.json_path.specs.declared.span.Escape.TheVariants as Escape
 use Rattle.json_path.specs.declared.path.PathSeg.{PathSeg}
 use Rattle.json_path.specs.declared.path.Relative.{Relative}
 use Rattle.json_path.specs.declared.path.SegmentRead.{SegmentRead}
-use Rattle.json_path.specs.declared.path.SegmentRead.TheVariants as SegmentRead
 
 pub next_found : {words : List ℕ} {k : ℕ} {n : Next} {s : Span} → n ≡ Next.Span s → NextIs words k n → Walked words k s
 next_found {words} {k} e h = (subst (λ z. NextIs words k z) e h).means

@@ -18,9 +18,7 @@ use Rattle.json_path.specs.declared.path.PathSeg.TheVariants.{Up}
 use Rattle.json_path.specs.declared.path.Relative.{Relative}
 use Rattle.json_path.specs.declared.path.SegmentRead.TheVariants as SegmentRead
 use Rattle.json_path.specs.declared.path.Given.{Given}
-use Rattle.json_path.specs.declared.path.Given.TheVariants as Given
 use Rattle.json_path.specs.declared.path.LocalName.{LocalName}
-use Rattle.json_path.specs.declared.path.LocalName.TheVariants as LocalName
 
 -- ---- the segment that a span gives, by its tag
 

@@ -6,22 +6,16 @@ use Rattle.json_path.specs.Span.{Span, span_count, span_at, spans_from, escapes_
 use Rattle.json_path.specs.Path.{Segment, named, root, here, up, relative, local, segments_to, path_at}
 use Rattle.json_path.specs.Path as spec
 use Rattle.json_path.specs.declared.span.Next.{Next}
-use Rattle.json_path.specs.declared.span.Next.TheVariants as Next
 use Rattle.json_path.specs.declared.span.Escape.{Escape}
-use Rattle.json_path.specs.declared.span.Escape.TheVariants as Escape
 use Rattle.json_path.specs.declared.path.Name.{Name}
 use Rattle.json_path.specs.declared.path.PathSeg.{PathSeg}
 use Rattle.json_path.specs.declared.path.PathSeg.TheVariants.{Named, Root, Here, Up}
 use Rattle.json_path.specs.declared.path.Relative.{Relative}
 use Rattle.json_path.specs.declared.path.Path.{Path}
-use Rattle.json_path.specs.declared.path.Path.TheVariants as Path
 use Rattle.json_path.specs.declared.path.PathRead.{PathRead}
 use Rattle.json_path.specs.declared.path.SegmentRead.{SegmentRead}
-use Rattle.json_path.specs.declared.path.SegmentRead.TheVariants as SegmentRead
 use Rattle.json_path.specs.declared.path.Given.{Given}
-use Rattle.json_path.specs.declared.path.Given.TheVariants as Given
 use Rattle.json_path.specs.declared.path.LocalName.{LocalName}
-use Rattle.json_path.specs.declared.path.LocalName.TheVariants as LocalName
 
 -- ---- spans
 

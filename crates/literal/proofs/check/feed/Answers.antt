@@ -39,9 +39,8 @@ pub returns-then-object : goal.returns-then-object
 returns-then-object c =
     let mode-act = c.mode_act-act in
     let top_of = c.top_of-top in
-    let act2 = c.in-Push in
     let a = c.args in
-    state.fed_push mode-act.ensures top_of.ensures act2.is c.within-then-object.ensures
+    state.fed_push mode-act.ensures top_of.ensures c.in-Push.is c.within-then-object.ensures
     (eq-eqb ((a.state.bits * 2 + 1) % 2) 1 (omega arith) ∙ sym c.if-object.true) (omega arith)
 
 pub overflow_add-depth-in-Push : goal.overflow_add-depth-in-Push
@@ -70,8 +69,7 @@ pub returns-then-depth-eq0 : goal.returns-then-depth-eq0
 returns-then-depth-eq0 c =
     let mode-act = c.mode_act-act in
     let top_of = c.top_of-top in
-    let act3 = c.in-Pop in
-    state.fed_pop_none mode-act.ensures top_of.ensures act3.is c.within-then-depth-eq0.ensures c.if-depth-eq0.true
+    state.fed_pop_none mode-act.ensures top_of.ensures c.in-Pop.is c.within-then-depth-eq0.ensures c.if-depth-eq0.true
 
 pub within-requires-in-Pop : goal.within-requires-in-Pop
 within-requires-in-Pop c =
@@ -89,17 +87,15 @@ pub returns-else-object : goal.returns-else-object
 returns-else-object c =
     let mode-act = c.mode_act-act in
     let top_of = c.top_of-top in
-    let act2 = c.in-Push in
     let a = c.args in
-    state.fed_push mode-act.ensures top_of.ensures act2.is c.within-in-Push.ensures
+    state.fed_push mode-act.ensures top_of.ensures c.in-Push.is c.within-in-Push.ensures
     (ne_eqb ((a.state.bits * 2) % 2) 1 (λ q. omega arith) ∙ sym c.if-object.false) (omega arith)
 
 pub returns-else-depth-eq0 : goal.returns-else-depth-eq0
 returns-else-depth-eq0 c =
     let mode-act = c.mode_act-act in
     let top_of = c.top_of-top in
-    let act3 = c.in-Pop in
-    state.fed_pop mode-act.ensures top_of.ensures act3.is c.within-in-Pop.ensures c.if-depth-eq0.false
+    state.fed_pop mode-act.ensures top_of.ensures c.in-Pop.is c.within-in-Pop.ensures c.if-depth-eq0.false
 
 pub returns-in-Invalid : goal.returns-in-Invalid
 returns-in-Invalid c =

@@ -31,9 +31,8 @@ returns-in-Invalid c =
     let there = c.past_plain-there in
     let next-byte = c.next_byte-byte in
     let e = plain.past_runs a.quoted a.text.now l.invariant.0 l.invariant.1 there.ensures in
-    let byte = c.in-Byte in
     sym
-    (quote.byte_taken a.quoted a.text.now there.result e next-byte.ensures byte.is
+    (quote.byte_taken a.quoted a.text.now there.result e next-byte.ensures c.in-Byte.is
     c.feed-fed.ensures c.in-Invalid.is)
 
 pub returns-in-Over : goal.returns-in-Over
@@ -43,9 +42,8 @@ returns-in-Over c =
     let there = c.past_plain-there in
     let next-byte = c.next_byte-byte in
     let e = plain.past_runs a.quoted a.text.now l.invariant.0 l.invariant.1 there.ensures in
-    let byte = c.in-Byte in
     sym
-    (quote.byte_taken a.quoted a.text.now there.result e next-byte.ensures byte.is
+    (quote.byte_taken a.quoted a.text.now there.result e next-byte.ensures c.in-Byte.is
     c.feed-fed.ensures c.in-Over.is)
 
 pub loop-c-smaller : goal.loop-c-smaller
@@ -53,8 +51,7 @@ loop-c-smaller c =
     let a = c.args in
     let there = c.past_plain-there in
     let next-byte = c.next_byte-byte in
-    let byte = c.in-Byte in
-    let e = ap length (quote.byte_left a.quoted a.text.now there.result next-byte.ensures byte.is) in
+    let e = ap length (quote.byte_left a.quoted a.text.now there.result next-byte.ensures c.in-Byte.is) in
     omega (arith, there.ensures.fewer a.quoted)
 
 pub loop-c-preserved : goal.loop-c-preserved
@@ -64,6 +61,5 @@ loop-c-preserved c =
     let there = c.past_plain-there in
     let next-byte = c.next_byte-byte in
     let e = plain.past_runs a.quoted a.text.now l.invariant.0 l.invariant.1 there.ensures in
-    let byte = c.in-Byte in
     let x = c.feed-fed.ensures in let y = c.in-On.is in
-    (quote.byte_taken a.quoted a.text.now there.result e next-byte.ensures byte.is x y, state.fed_room x y)
+    (quote.byte_taken a.quoted a.text.now there.result e next-byte.ensures c.in-Byte.is x y, state.fed_room x y)

@@ -4,8 +4,6 @@ use lib.ListN.{length}
 use Rattle.literal.specs.Literal.{verdict}
 use Rattle.literal.specs.Means.{StateRoom, state_runs}
 use Rattle.literal.specs.Requote.{left}
-use Rattle.literal.proofs.PlainLaws as plain
-use Rattle.literal.proofs.StateLaws as state
 use Rattle.literal.proofs.check.judge.Given as goal
 
 abbrev pub invariant-loop-c : goal.invariant-loop-c

@@ -14,7 +14,7 @@ returns-in_default c =
 
 pub returns-in-0-to-31 : goal.returns-in-0-to-31
 unfolding all_below is_unescaped
-returns-in-0-to-31 c = by_keys is_unescaped false (34 ∷ 92 ∷ []) tt c.args.c c.in-0-to-31.is
+returns-in-0-to-31 c = by_keys is_unescaped false (34 ∷ 92 ∷ []) tt c.args.c c.in-0-to-31.in-0-to-31-own.keys1
 
 pub returns-in-0-to-31-2 : goal.returns-in-0-to-31-2
 unfolding all_below is_unescaped

@@ -14,6 +14,4 @@ returns-in_default-p c = plain.stays c.in-Inner.is
 
 pub returns : goal.returns
 returns c =
-    let place = c.in-Inner in
-    let mode = c.in-InString in
-    plain.goes c.args.text.now _ c.plain_from.result place.is mode.is c.in-Between.is c.plain_from.ensures
+    plain.goes c.args.text.now _ c.plain_from.result c.in-Inner.is c.in-InString.is c.in-Between.is c.plain_from.ensures

@@ -4,7 +4,6 @@ use mathlib.Core.Path.{◌≡◌}
 use lib.ListN.{length, drop}
 use Rattle.literal.specs.Json.{is_unescaped}
 use Rattle.literal.specs.Means.{leading_bytes}
-use Rattle.literal.proofs.PlainLaws as plain
 use Rattle.literal.proofs.plain.plain_from.Given as goal
 
 abbrev pub invariant-loop-i : goal.invariant-loop-i

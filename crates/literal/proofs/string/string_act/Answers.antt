@@ -9,16 +9,14 @@ use Rattle.literal.proofs.string.string_act.Goals as goal
 pub returns-then-n-eq0 : goal.returns-then-n-eq0
 returns-then-n-eq0 c =
     let a = c.args in
-    let p = c.in-Hex in
     let x = a.k in let y = a.c in record
-    { acts = λ st. c.hex_act.ensures.acts st ∙ act.hex_last x st y p.given.0.0 c.if-n-eq0.true ∙ ap (λ q. string_step (str_means q) x st y) (sym p.is) }
+    { acts = λ st. c.hex_act.ensures.acts st ∙ act.hex_last x st y c.in-Hex.n c.if-n-eq0.true ∙ ap (λ q. string_step (str_means q) x st y) (sym c.in-Hex.is) }
 
 pub returns-then-n-eq0-2 : goal.returns-then-n-eq0-2
 returns-then-n-eq0-2 c =
     let a = c.args in
-    let p2 = c.in-High in
     let x = a.k in let y = a.c in record
-    { acts = λ st. c.hex_act-then-n-eq0-2.ensures.acts st ∙ act.high_last x st y p2.given.0.0 c.if-n-eq0-2.true ∙ ap (λ q. string_step (str_means q) x st y) (sym p2.is) }
+    { acts = λ st. c.hex_act-then-n-eq0-2.ensures.acts st ∙ act.high_last x st y c.in-High.n c.if-n-eq0-2.true ∙ ap (λ q. string_step (str_means q) x st y) (sym c.in-High.is) }
 
 pub returns-in-Between : goal.returns-in-Between
 returns-in-Between c =
@@ -47,16 +45,14 @@ returns-in-AfterD c =
 pub returns-else-n-eq0 : goal.returns-else-n-eq0
 returns-else-n-eq0 c =
     let a = c.args in
-    let p = c.in-Hex in
     let x = a.k in let y = a.c in record
-    { acts = λ st. c.hex_act-in-Hex.ensures.acts st ∙ act.hex_on x st y p.given.0.0 c.if-n-eq0.false ∙ ap (λ q. string_step (str_means q) x st y) (sym p.is) }
+    { acts = λ st. c.hex_act-in-Hex.ensures.acts st ∙ act.hex_on x st y c.in-Hex.n c.if-n-eq0.false ∙ ap (λ q. string_step (str_means q) x st y) (sym c.in-Hex.is) }
 
 pub returns-else-n-eq0-2 : goal.returns-else-n-eq0-2
 returns-else-n-eq0-2 c =
     let a = c.args in
-    let p2 = c.in-High in
     let x = a.k in let y = a.c in record
-    { acts = λ st. c.hex_act-in-High.ensures.acts st ∙ act.high_on x st y p2.given.0.0 c.if-n-eq0-2.false ∙ ap (λ q. string_step (str_means q) x st y) (sym p2.is) }
+    { acts = λ st. c.hex_act-in-High.ensures.acts st ∙ act.high_on x st y c.in-High.n c.if-n-eq0-2.false ∙ ap (λ q. string_step (str_means q) x st y) (sym c.in-High.is) }
 
 pub returns-in-AfterHigh : goal.returns-in-AfterHigh
 returns-in-AfterHigh c =

@@ -1,4 +1,5 @@
 -- Each answer is the law of its branch, at the values of the tests.
+use Prim.Native.Nat.{◌<◌, ◌≤◌}
 use native.Mathlib.Omega.{arith}
 use Rattle.literal.proofs.ActLaws as act
 use Rattle.literal.proofs.value.value_start.Goals as goal
@@ -31,17 +32,14 @@ pub returns-in-49-to-57 : goal.returns-in-49-to-57
 returns-in-49-to-57 c =
     let a = c.args in
     record
-    { acts = λ st. act.value_digit_but_0 st a.c (λ h. omega arith) c.if-c-lt48.false c.in-49-to-57.true }
+    { acts = λ st. act.value_digit_but_0 st a.c (λ h. omega arith) (omega arith) (omega arith) }
 
 pub returns-in_default : goal.returns-in_default
 returns-in_default c =
-    let match = c.in_default-1 in
-    let x = (λ h. omega arith) in let y = c.args.c in record
-    { acts = λ st. act.value_other st y (λ h. omega arith) (λ h. omega arith) x (act.no_digit y (omega (arith, x))) (λ h. omega arith) (λ h. omega arith) (λ h. omega arith) (λ h. omega arith) (λ h. omega arith) }
+    let low : c.args.c < 48 = omega arith in record
+    { acts = λ st. act.value_other st c.args.c (λ h. omega arith) (λ h. omega arith) (λ h. omega arith) (act.no_digit c.args.c low) (λ h. omega arith) (λ h. omega arith) (λ h. omega arith) (λ h. omega arith) (λ h. omega arith) }
 
 pub returns-in_default-2 : goal.returns-in_default-2
 returns-in_default-2 c =
-    let a = c.args in
-    let match = c.in_default-1 in
-    let x = a.c in record
-    { acts = λ st. act.value_other st x (λ h. omega arith) (λ h. omega arith) (λ h. omega arith) (act.past_digit x c.in_default.false) (λ h. omega arith) (λ h. omega arith) (λ h. omega arith) (λ h. omega arith) (λ h. omega arith) }
+    let high : 58 ≤ c.args.c = omega arith in record
+    { acts = λ st. act.value_other st c.args.c (λ h. omega arith) (λ h. omega arith) (λ h. omega arith) (act.past_digit c.args.c high) (λ h. omega arith) (λ h. omega arith) (λ h. omega arith) (λ h. omega arith) (λ h. omega arith) }
