@@ -20,22 +20,17 @@ use Rattle.expression.specs.Least.{lower, entry, least_of, hash_of, param_of, le
 use Rattle.expression.specs.declared.parameter.Parameter.{Parameter}
 use Rattle.expression.specs.declared.parameter.Subexpression.{Subexpression}
 use Rattle.expression.specs.declared.parameter.Part.{Part}
-use Rattle.expression.specs.declared.parameter.Part.TheVariants as Part
 use Rattle.expression.specs.declared.parameter.Parts.{Parts}
 use Rattle.expression.specs.declared.parameter.Hash.{Hash}
 use Rattle.expression.specs.declared.parameter.Fault.{Fault}
 use Rattle.expression.specs.declared.parameter.ExpressionRead.{ExpressionRead}
-use Rattle.expression.specs.declared.parameter.ExpressionRead.TheVariants as ExpressionRead
 use Rattle.expression.specs.declared.again.ParamStep.TheVariants as ParamStep
 use Rattle.expression.specs.declared.again.Bound.{Bound}
-use Rattle.expression.specs.declared.again.Bound.TheVariants as Bound
 use Rattle.expression.specs.declared.again.KeyStep.TheVariants as KeyStep
 use Rattle.expression.specs.declared.again.MaybeParam.{MaybeParam}
-use Rattle.expression.specs.declared.again.MaybeParam.TheVariants as MaybeParam
 use Rattle.expression.specs.declared.again.MaybeHash.{MaybeHash}
-use Rattle.expression.specs.declared.again.MaybeHash.TheVariants as MaybeHash
 use Rattle.expression.proofs.Laws.{mapped_twice}
-use Rattle.expression.proofs.KeyLaws.{first, sorted_keys, first_least, others_above, none_above, lower_none, lower_lower}
+use Rattle.expression.proofs.KeyLaws.{sorted_keys, first_least, others_above, none_above, lower_none, lower_lower}
 
 mapped_same : {A B : Type 0} (f g : A → B) → ((a : A) → f a ≡ g a) → (o : Read A) → mapped f o ≡ mapped g o
 mapped_same f g h (done a r) = ap (λ b. done b r) (h a)

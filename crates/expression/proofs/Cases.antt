@@ -6,7 +6,6 @@ use mathlib.Core.Bool.{Bool, false}
 use Rattle.support.specs.Bytes.{Bytes}
 use Rattle.json_path.specs.Span.{Span, spans_from}
 use Rattle.json_path.specs.declared.span.Next.{Next}
-use Rattle.json_path.specs.declared.span.Next.TheVariants as Next
 use Rattle.expression.specs.Expression.{Param, Expression}
 use Rattle.expression.specs.Read.{Read, done, failed}
 use Rattle.expression.specs.Readers.{read_hash, read_expression}
@@ -21,22 +20,14 @@ use Rattle.expression.specs.declared.parameter.Parts.{Parts}
 use Rattle.expression.specs.declared.parameter.Fault.{Fault}
 use Rattle.expression.specs.declared.parameter.ExpressionSpec.{ExpressionSpec}
 use Rattle.expression.specs.declared.parameter.TildeRead.{TildeRead}
-use Rattle.expression.specs.declared.parameter.TildeRead.TheVariants as TildeRead
 use Rattle.expression.specs.declared.parameter.BlockRead.{BlockRead}
-use Rattle.expression.specs.declared.parameter.BlockRead.TheVariants as BlockRead
 use Rattle.expression.specs.declared.parameter.ParamRead.{ParamRead}
-use Rattle.expression.specs.declared.parameter.ParamRead.TheVariants as ParamRead
 use Rattle.expression.specs.declared.parameter.HashRead.{HashRead}
-use Rattle.expression.specs.declared.parameter.HashRead.TheVariants as HashRead
 use Rattle.expression.specs.declared.parameter.PartRead.{PartRead}
-use Rattle.expression.specs.declared.parameter.PartRead.TheVariants as PartRead
 use Rattle.expression.specs.declared.parameter.ExpressionRead.{ExpressionRead}
-use Rattle.expression.specs.declared.parameter.ExpressionRead.TheVariants as ExpressionRead
 use Rattle.expression.specs.declared.again.ParamStep.{ParamStep}
-use Rattle.expression.specs.declared.again.ParamStep.TheVariants as ParamStep
 use Rattle.expression.specs.declared.again.Bound.{Bound}
 use Rattle.expression.specs.declared.again.KeyStep.{KeyStep}
-use Rattle.expression.specs.declared.again.KeyStep.TheVariants as KeyStep
 
 module _ {words : List ℕ} {at : ℕ} where
   pub tilde_done : {r : TildeRead} {left : Bool} {n : ℕ} → r ≡ TildeRead.Done left n → TildeIs words at r

@@ -24,7 +24,6 @@ use Rattle.expression.specs.declared.parameter.BlockParam.{BlockParam}
 use Rattle.expression.specs.declared.parameter.BlockParam.TheVariants.{None}
 use Rattle.expression.specs.declared.parameter.Hash.{Hash}
 use Rattle.expression.specs.declared.parameter.Part.{Part}
-use Rattle.expression.specs.declared.parameter.Part.TheVariants as Part
 use Rattle.expression.specs.declared.parameter.Parts.{Parts}
 use Rattle.expression.specs.declared.parameter.Fault.{Fault}
 use Rattle.expression.specs.declared.parameter.Fault.TheVariants.{Ended, NotAllowed, OverLimit}
@@ -32,12 +31,9 @@ use Rattle.expression.specs.declared.parameter.ExpressionSpec.{ExpressionSpec}
 use Rattle.expression.specs.declared.parameter.TildeRead.TheVariants as TildeRead
 use Rattle.expression.specs.declared.parameter.BlockRead.TheVariants as BlockRead
 use Rattle.expression.specs.declared.parameter.ParamRead.{ParamRead}
-use Rattle.expression.specs.declared.parameter.ParamRead.TheVariants as ParamRead
 use Rattle.expression.specs.declared.parameter.HashRead.TheVariants as HashRead
 use Rattle.expression.specs.declared.parameter.PartRead.{PartRead}
-use Rattle.expression.specs.declared.parameter.PartRead.TheVariants as PartRead
 use Rattle.expression.specs.declared.parameter.ExpressionRead.{ExpressionRead}
-use Rattle.expression.specs.declared.parameter.ExpressionRead.TheVariants as ExpressionRead
 use Rattle.expression.proofs.Equations.{name_next, subexpression_eq, param_eq, expression_eq, parts_end, parts_stop, parts_next}
 use Rattle.expression.proofs.Judged.{expression_again, parts_again}
 

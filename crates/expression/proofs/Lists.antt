@@ -14,7 +14,6 @@ use Rattle.expression.specs.Answers.{param_means, ParamLinked, parts_read, param
 use Rattle.expression.specs.Again.{ParamStepIs, ParamsMet, keys_above, keys_left, KeyStepIs, KeysMet, SubexpressionIs}
 use Rattle.expression.specs.Again as again
 use Rattle.expression.specs.declared.parameter.Parameter.{Parameter}
-use Rattle.expression.specs.declared.parameter.Parameter.TheVariants as Parameter
 use Rattle.expression.specs.declared.parameter.Subexpression.{Subexpression}
 use Rattle.expression.specs.declared.parameter.Parts.{Parts}
 use Rattle.expression.specs.declared.parameter.Hash.{Hash}
@@ -22,7 +21,6 @@ use Rattle.expression.specs.declared.parameter.Fault as declared
 use Rattle.expression.specs.declared.parameter.ExpressionRead.TheVariants as ExpressionRead
 use Rattle.expression.specs.declared.again.ParamStep.TheVariants as ParamStep
 use Rattle.expression.specs.declared.again.Bound.{Bound}
-use Rattle.expression.specs.declared.again.Bound.TheVariants as Bound
 use Rattle.expression.specs.declared.again.KeyStep.TheVariants as KeyStep
 
 -- what was read is read but once

@@ -10,18 +10,15 @@ use Rattle.support.specs.Bytes.{Bytes, part}
 use Rattle.json_path.specs.Span.{Span, own, spans_from, skip_to}
 use Rattle.json_path.specs.Answers.{path_means, Walked, NextIs, PathIs}
 use Rattle.json_path.specs.declared.span.Next.{Next}
-use Rattle.json_path.specs.declared.span.Next.TheVariants as Next
 use Rattle.json_path.specs.declared.path.PathRead.{PathRead}
 use Rattle.json_path.specs.declared.path.Name.{Name}
 use Rattle.json_path.specs.declared.path.Relative.{Relative}
 use Rattle.json_path.specs.declared.path.Local.{Local}
 use Rattle.json_path.specs.declared.path.Path.{Path}
-use Rattle.json_path.specs.declared.path.Path.TheVariants as Path
 use Rattle.literal.specs.Literal.{verdict}
 use Rattle.literal.specs.Requote.{requoted}
 use Rattle.literal.specs.Means.{verdict_means}
 use Rattle.literal.specs.declared.check.Verdict.{Verdict}
-use Rattle.literal.specs.declared.check.Verdict.TheVariants as Verdict
 use Rattle.expression.specs.Expression.{path, single, as_name}
 use Rattle.expression.specs.Read.{done, next}
 use Rattle.expression.specs.Readers.{read_tilde, judgement, literal_text, read_own_span, read_path, read_literal, read_second, read_block_param}
@@ -29,14 +26,12 @@ use Rattle.expression.specs.Answers.{literal_means, param_means, ParamIs, litera
 use Rattle.expression.specs.declared.parameter.Literal.{Literal}
 use Rattle.expression.specs.declared.parameter.Subexpression.{Subexpression}
 use Rattle.expression.specs.declared.parameter.Parameter.{Parameter}
-use Rattle.expression.specs.declared.parameter.Parameter.TheVariants as Parameter
 use Rattle.expression.specs.declared.parameter.AsName.TheVariants as AsName
 use Rattle.expression.specs.declared.parameter.BlockParam.TheVariants.{Single, Pair}
 use Rattle.expression.specs.declared.parameter.Fault.TheVariants.{Ended}
 use Rattle.expression.specs.declared.parameter.TildeRead.TheVariants as TildeRead
 use Rattle.expression.specs.declared.parameter.BlockRead.TheVariants as BlockRead
 use Rattle.expression.specs.declared.parameter.ParamRead.{ParamRead}
-use Rattle.expression.specs.declared.parameter.ParamRead.TheVariants as ParamRead
 
 -- ---- a left tilde, and a parameter's own span
 

@@ -10,19 +10,14 @@ use Rattle.expression.specs.Read.{Read, failed, mapped, Reads}
 use Rattle.expression.specs.Readers.{read_expression}
 use Rattle.expression.specs.Answers.{fault_means, param_means, ParamLinked, Links, params_read, keys_read, call_means}
 use Rattle.expression.specs.declared.parameter.Parameter.{Parameter}
-use Rattle.expression.specs.declared.parameter.Parameter.TheVariants as Parameter
 use Rattle.expression.specs.declared.parameter.Subexpression.{Subexpression}
 use Rattle.expression.specs.declared.parameter.Parts.{Parts}
 use Rattle.expression.specs.declared.parameter.Hash.{Hash}
 use Rattle.expression.specs.declared.parameter.ExpressionSpec.{ExpressionSpec}
 use Rattle.expression.specs.declared.parameter.ExpressionRead.{ExpressionRead}
-use Rattle.expression.specs.declared.parameter.ExpressionRead.TheVariants as ExpressionRead
 use Rattle.expression.specs.declared.again.ParamStep.{ParamStep}
-use Rattle.expression.specs.declared.again.ParamStep.TheVariants as ParamStep
 use Rattle.expression.specs.declared.again.Bound.{Bound}
-use Rattle.expression.specs.declared.again.Bound.TheVariants as Bound
 use Rattle.expression.specs.declared.again.KeyStep.{KeyStep}
-use Rattle.expression.specs.declared.again.KeyStep.TheVariants as KeyStep
 
 -- ---- the parameters
 

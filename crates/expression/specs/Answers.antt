@@ -5,10 +5,8 @@ use Rattle.support.specs.Bytes.{Bytes, if, part}
 use Rattle.json_path.specs.Span.{Span, span_count, spans_from}
 use Rattle.json_path.specs.Answers.{name_means, path_means}
 use Rattle.json_path.specs.declared.span.Next.{Next}
-use Rattle.json_path.specs.declared.span.Next.TheVariants as Next
 use Rattle.literal.specs.Requote.{requoted}
 use Rattle.literal.specs.declared.check.Verdict.{Verdict}
-use Rattle.literal.specs.declared.check.Verdict.TheVariants as Verdict
 use Rattle.expression.specs.Expression.{Param, name, path, literal, subexpression, Call, call, Params, no_params, Keys, no_keys, no_block_param, single, pair, Expression, as_name, parameter, hash, block, right_tilde, skipped, params_of, keys_of, expression_of}
 use Rattle.expression.specs.Expression as spec
 use Rattle.expression.specs.Read.{ended, not_allowed, invalid_literal, over_limit, Read, done, failed, mapped, read_or, Readable}
@@ -18,28 +16,20 @@ use Rattle.expression.specs.declared.parameter.Literal as declared
 use Rattle.expression.specs.declared.parameter.Parameter.{Parameter}
 use Rattle.expression.specs.declared.parameter.Parameter.TheVariants.{Name, Path, Literal, Subexpression}
 use Rattle.expression.specs.declared.parameter.AsName.{AsName}
-use Rattle.expression.specs.declared.parameter.AsName.TheVariants as AsName
 use Rattle.expression.specs.declared.parameter.BlockParam.{BlockParam}
 use Rattle.expression.specs.declared.parameter.BlockParam.TheVariants.{None, Single, Pair}
 use Rattle.expression.specs.declared.parameter.Hash.{Hash}
 use Rattle.expression.specs.declared.parameter.Part.{Part}
-use Rattle.expression.specs.declared.parameter.Part.TheVariants as Part
 use Rattle.expression.specs.declared.parameter.Parts.{Parts}
 use Rattle.expression.specs.declared.parameter.Fault.{Fault}
 use Rattle.expression.specs.declared.parameter.Fault.TheVariants.{Ended, NotAllowed, InvalidLiteral, OverLimit}
 use Rattle.expression.specs.declared.parameter.ExpressionSpec.{ExpressionSpec}
 use Rattle.expression.specs.declared.parameter.TildeRead.{TildeRead}
-use Rattle.expression.specs.declared.parameter.TildeRead.TheVariants as TildeRead
 use Rattle.expression.specs.declared.parameter.BlockRead.{BlockRead}
-use Rattle.expression.specs.declared.parameter.BlockRead.TheVariants as BlockRead
 use Rattle.expression.specs.declared.parameter.ParamRead.{ParamRead}
-use Rattle.expression.specs.declared.parameter.ParamRead.TheVariants as ParamRead
 use Rattle.expression.specs.declared.parameter.HashRead.{HashRead}
-use Rattle.expression.specs.declared.parameter.HashRead.TheVariants as HashRead
 use Rattle.expression.specs.declared.parameter.PartRead.{PartRead}
-use Rattle.expression.specs.declared.parameter.PartRead.TheVariants as PartRead
 use Rattle.expression.specs.declared.parameter.ExpressionRead.{ExpressionRead}
-use Rattle.expression.specs.declared.parameter.ExpressionRead.TheVariants as ExpressionRead
 
 -- document 01's numbers of these are 8, 8, 9 and 12 (fault_number)
 abbrev pub fault_means : Fault → spec-read.Fault

@@ -10,9 +10,7 @@ use Rattle.expression.specs.declared.parameter.Part as declared
 use Rattle.expression.specs.declared.parameter.Part.TheVariants as Part
 use Rattle.expression.specs.declared.again.Bound.{Bound}
 use Rattle.expression.specs.declared.again.MaybeHash.{MaybeHash}
-use Rattle.expression.specs.declared.again.MaybeHash.TheVariants as MaybeHash
 use Rattle.expression.specs.declared.again.MaybeParam.{MaybeParam}
-use Rattle.expression.specs.declared.again.MaybeParam.TheVariants as MaybeParam
 
 -- the lesser key of an earlier and a later one; of the same key the later
 abbrev pub lower : Option (Bytes × Param) → Option (Bytes × Param) → Option (Bytes × Param)

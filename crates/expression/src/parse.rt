@@ -56,7 +56,7 @@ pub fn parse_block_param(words: &[u32], at: usize, limit: usize) -> BlockRead
 }
 
 // A name: tags 21 to 25, or a path, or a subexpression.
-#[cycle(next_part_parse_expression_parse_hash_parse_name_parse_param_parse_parts_parse_subexpression_parse_value)]
+#[cycle(readers)]
 pub fn parse_name(text: &[u8], words: &[u32], at: usize, depth: usize, judged: bool) -> ParamRead
     ensures { ParamIs text.now words.now (read_name judged text.now depth (spans_from words.now at)) (at + 1) result }
 {
@@ -80,7 +80,7 @@ pub fn parse_name(text: &[u8], words: &[u32], at: usize, depth: usize, judged: b
 }
 
 // A parameter from its own span.
-#[cycle(next_part_parse_expression_parse_hash_parse_name_parse_param_parse_parts_parse_subexpression_parse_value)]
+#[cycle(readers)]
 fn parse_value(text: &[u8], words: &[u32], s: Span, depth: usize, judged: bool) -> ParamRead
     requires { s.number < length words.now }
     ensures { ParamIs text.now words.now (read_value judged text.now depth s (spans_from words.now (s.number + 1))) (s.number + 1) result }
@@ -95,7 +95,7 @@ fn parse_value(text: &[u8], words: &[u32], s: Span, depth: usize, judged: bool) 
 }
 
 // A parameter. When read, it skips the spans that end no later than its own.
-#[cycle(next_part_parse_expression_parse_hash_parse_name_parse_param_parse_parts_parse_subexpression_parse_value)]
+#[cycle(readers)]
 pub fn parse_param(text: &[u8], words: &[u32], at: usize, depth: usize, judged: bool) -> ParamRead
     ensures { ParamIs text.now words.now (read_param judged text.now depth (spans_from words.now at)) (at + 1) result }
 {
@@ -112,7 +112,7 @@ pub fn parse_param(text: &[u8], words: &[u32], at: usize, depth: usize, judged: 
 }
 
 // A span as key, and then a parameter.
-#[cycle(next_part_parse_expression_parse_hash_parse_name_parse_param_parse_parts_parse_subexpression_parse_value)]
+#[cycle(readers)]
 pub fn parse_hash(text: &[u8], words: &[u32], at: usize, depth: usize, judged: bool) -> HashRead
     ensures { HashIs judged text.now words.now depth at result }
 {
@@ -152,7 +152,7 @@ fn part_then(parts: Parts, part: Part, next: usize) -> PartRead
 
 // The first part of a link's. There is none at the end of the list, and none from a span on whose end
 // is at or past the limit.
-#[cycle(next_part_parse_expression_parse_hash_parse_name_parse_param_parse_parts_parse_subexpression_parse_value)]
+#[cycle(readers)]
 pub fn next_part(text: &[u8], words: &[u32], parts: Parts, judged: bool) -> PartRead
     ensures { PartIs judged text.now words.now parts result }
 {
@@ -218,7 +218,7 @@ fn tilde_then(right: bool, part: Part) -> bool
 
 // The expression of a left tilde, a name and its parts: all parts are read, and of them only the
 // block parameter and the right tilde are kept.
-#[cycle(next_part_parse_expression_parse_hash_parse_name_parse_param_parse_parts_parse_subexpression_parse_value)]
+#[cycle(readers)]
 fn parse_parts(
     text: &[u8],
     words: &[u32],
@@ -258,7 +258,7 @@ fn parse_parts(
 }
 
 // An expression: tag 34 or not, a name, and its parts up to the limit.
-#[cycle(next_part_parse_expression_parse_hash_parse_name_parse_param_parse_parts_parse_subexpression_parse_value)]
+#[cycle(readers)]
 pub fn parse_expression(
     text: &[u8],
     words: &[u32],
@@ -292,7 +292,7 @@ pub fn parse_expression(
 }
 
 // A subexpression, behind its tag 27 that ends at the limit: one fewer may be opened inside it.
-#[cycle(next_part_parse_expression_parse_hash_parse_name_parse_param_parse_parts_parse_subexpression_parse_value)]
+#[cycle(readers)]
 pub fn parse_subexpression(
     text: &[u8],
     words: &[u32],

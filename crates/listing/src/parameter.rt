@@ -61,7 +61,7 @@ fn write_key(out: &mut [u8], at: usize, text: &[u8], k: Name) -> usize
     put_bytes(out, q, b"\n")
 }
 
-#[cycle(write_call_write_hash_write_held_write_keys_write_least_keys_write_many_keys_write_param_write_params_write_subexpression)]
+#[cycle(writers)]
 pub fn write_param(out: &mut [u8], at: usize, text: &[u8], words: &[u32], v: Parameter) -> usize
     ensures { Written (write_form (param_form (param_means text.now words.now v))) out.old at out.new result }
 {
@@ -74,7 +74,7 @@ pub fn write_param(out: &mut [u8], at: usize, text: &[u8], words: &[u32], v: Par
 }
 
 // A link that cannot be read denotes an empty call.
-#[cycle(write_call_write_hash_write_held_write_keys_write_least_keys_write_many_keys_write_param_write_params_write_subexpression)]
+#[cycle(writers)]
 fn write_subexpression(
     out: &mut [u8],
     at: usize,
@@ -97,7 +97,7 @@ fn write_subexpression(
 
 // Name, parameters, keys in byte order. A link that a reader answered can be read again: this and the
 // writers of all parameters and keys ask for that, so that `Failed` does not occur in them.
-#[cycle(write_call_write_hash_write_held_write_keys_write_least_keys_write_many_keys_write_param_write_params_write_subexpression)]
+#[cycle(writers)]
 pub(crate) fn write_call(
     out: &mut [u8],
     at: usize,
@@ -114,7 +114,7 @@ pub(crate) fn write_call(
     write_keys(out, q, text, words, parts)
 }
 
-#[cycle(write_call_write_hash_write_held_write_keys_write_least_keys_write_many_keys_write_param_write_params_write_subexpression)]
+#[cycle(writers)]
 fn write_params(out: &mut [u8], at: usize, text: &[u8], words: &[u32], parts: Parts) -> usize
     requires { Readable (parts_read false text.now words.now parts) }
     ensures { Written (write_forms (param_forms (read_or no_params (params_read text.now words.now parts)) nil)) out.old at out.new result }
@@ -139,7 +139,7 @@ fn write_params(out: &mut [u8], at: usize, text: &[u8], words: &[u32], parts: Pa
 }
 
 // Most calls have few keys.
-#[cycle(write_call_write_hash_write_held_write_keys_write_least_keys_write_many_keys_write_param_write_params_write_subexpression)]
+#[cycle(writers)]
 fn write_keys(out: &mut [u8], at: usize, text: &[u8], words: &[u32], parts: Parts) -> usize
     requires { Readable (parts_read false text.now words.now parts) }
     ensures { Written (write_forms (key_forms (read_or no_keys (keys_read text.now words.now parts)) nil)) out.old at out.new result }
@@ -153,7 +153,7 @@ fn write_keys(out: &mut [u8], at: usize, text: &[u8], words: &[u32], parts: Part
 }
 
 // A key takes three spans: a list of so many spans as are allowed has no more keys than these cells.
-#[cycle(write_call_write_hash_write_held_write_keys_write_least_keys_write_many_keys_write_param_write_params_write_subexpression)]
+#[cycle(writers)]
 fn write_many_keys(out: &mut [u8], at: usize, text: &[u8], words: &[u32], parts: Parts) -> usize
     requires { Readable (parts_read false text.now words.now parts) }
     ensures { Written (write_forms (key_forms (read_or no_keys (keys_read text.now words.now parts)) nil)) out.old at out.new result }
@@ -167,7 +167,7 @@ fn write_many_keys(out: &mut [u8], at: usize, text: &[u8], words: &[u32], parts:
 }
 
 // Keys that are held.
-#[cycle(write_call_write_hash_write_held_write_keys_write_least_keys_write_many_keys_write_param_write_params_write_subexpression)]
+#[cycle(writers)]
 fn write_held(
     out: &mut [u8],
     at: usize,
@@ -193,7 +193,7 @@ fn write_held(
 }
 
 // However many keys: the parts are read again for each, the least that is left.
-#[cycle(write_call_write_hash_write_held_write_keys_write_least_keys_write_many_keys_write_param_write_params_write_subexpression)]
+#[cycle(writers)]
 fn write_least_keys(out: &mut [u8], at: usize, text: &[u8], words: &[u32], parts: Parts) -> usize
     requires { Readable (parts_read false text.now words.now parts) }
     ensures { Written (write_forms (key_forms (read_or no_keys (keys_read text.now words.now parts)) nil)) out.old at out.new result }
@@ -219,7 +219,7 @@ fn write_least_keys(out: &mut [u8], at: usize, text: &[u8], words: &[u32], parts
 }
 
 // A key with its value.
-#[cycle(write_call_write_hash_write_held_write_keys_write_least_keys_write_many_keys_write_param_write_params_write_subexpression)]
+#[cycle(writers)]
 pub fn write_hash(out: &mut [u8], at: usize, text: &[u8], words: &[u32], h: Hash) -> usize
     ensures { Written (write_forms (key_forms (key (name_means text.now h.key) (param_means text.now words.now h.value) no_keys) nil)) out.old at out.new result }
 {

@@ -21,31 +21,31 @@ use Rattle.listing.proofs.PathWrites as paths
 use Rattle.listing.proofs.Writes as writes
 use Rattle.listing.proofs.parameter.write_call.Reads as write-call
 use Rattle.listing.proofs.parameter.write_call.Kinds as write-call-kinds
-use Rattle.listing.proofs.parameter.+write_call_write_hash_write_held_write_keys_write_least_keys_write_many_keys_write_param_write_params_write_subexpression.Lts-write_call as write-call-lts
+use Rattle.listing.proofs.parameter.+writers.Lts-write_call as write-call-lts
 use Rattle.listing.proofs.parameter.write_hash.Reads as write-hash
 use Rattle.listing.proofs.parameter.write_hash.Kinds as write-hash-kinds
-use Rattle.listing.proofs.parameter.+write_call_write_hash_write_held_write_keys_write_least_keys_write_many_keys_write_param_write_params_write_subexpression.Lts-write_hash as write-hash-lts
+use Rattle.listing.proofs.parameter.+writers.Lts-write_hash as write-hash-lts
 use Rattle.listing.proofs.parameter.write_held.Reads as write-held
 use Rattle.listing.proofs.parameter.write_held.Kinds as write-held-kinds
-use Rattle.listing.proofs.parameter.+write_call_write_hash_write_held_write_keys_write_least_keys_write_many_keys_write_param_write_params_write_subexpression.Lts-write_held as write-held-lts
+use Rattle.listing.proofs.parameter.+writers.Lts-write_held as write-held-lts
 use Rattle.listing.proofs.parameter.write_keys.Reads as write-keys
 use Rattle.listing.proofs.parameter.write_keys.Kinds as write-keys-kinds
-use Rattle.listing.proofs.parameter.+write_call_write_hash_write_held_write_keys_write_least_keys_write_many_keys_write_param_write_params_write_subexpression.Lts-write_keys as write-keys-lts
+use Rattle.listing.proofs.parameter.+writers.Lts-write_keys as write-keys-lts
 use Rattle.listing.proofs.parameter.write_least_keys.Reads as write-least-keys
 use Rattle.listing.proofs.parameter.write_least_keys.Kinds as write-least-keys-kinds
-use Rattle.listing.proofs.parameter.+write_call_write_hash_write_held_write_keys_write_least_keys_write_many_keys_write_param_write_params_write_subexpression.Lts-write_least_keys as write-least-keys-lts
+use Rattle.listing.proofs.parameter.+writers.Lts-write_least_keys as write-least-keys-lts
 use Rattle.listing.proofs.parameter.write_many_keys.Reads as write-many-keys
 use Rattle.listing.proofs.parameter.write_many_keys.Kinds as write-many-keys-kinds
-use Rattle.listing.proofs.parameter.+write_call_write_hash_write_held_write_keys_write_least_keys_write_many_keys_write_param_write_params_write_subexpression.Lts-write_many_keys as write-many-keys-lts
+use Rattle.listing.proofs.parameter.+writers.Lts-write_many_keys as write-many-keys-lts
 use Rattle.listing.proofs.parameter.write_param.Reads as write-param
 use Rattle.listing.proofs.parameter.write_param.Kinds as write-param-kinds
-use Rattle.listing.proofs.parameter.+write_call_write_hash_write_held_write_keys_write_least_keys_write_many_keys_write_param_write_params_write_subexpression.Lts-write_param as write-param-lts
+use Rattle.listing.proofs.parameter.+writers.Lts-write_param as write-param-lts
 use Rattle.listing.proofs.parameter.write_params.Reads as write-params
 use Rattle.listing.proofs.parameter.write_params.Kinds as write-params-kinds
-use Rattle.listing.proofs.parameter.+write_call_write_hash_write_held_write_keys_write_least_keys_write_many_keys_write_param_write_params_write_subexpression.Lts-write_params as write-params-lts
+use Rattle.listing.proofs.parameter.+writers.Lts-write_params as write-params-lts
 use Rattle.listing.proofs.parameter.write_subexpression.Reads as write-subexpression
 use Rattle.listing.proofs.parameter.write_subexpression.Kinds as write-subexpression-kinds
-use Rattle.listing.proofs.parameter.+write_call_write_hash_write_held_write_keys_write_least_keys_write_many_keys_write_param_write_params_write_subexpression.Lts-write_subexpression as write-subexpression-lts
+use Rattle.listing.proofs.parameter.+writers.Lts-write_subexpression as write-subexpression-lts
 use Rattle.expression.proofs.again.enter.Reads as enter-reads
 use Rattle.expression.proofs.again.next_key.Reads as next-key-reads
 use Rattle.expression.proofs.again.next_param.Reads as next-param-reads
@@ -56,10 +56,10 @@ use Rattle.listing.proofs.parameter.write_literal.Reads as write-literal-reads
 use Rattle.listing.proofs.parameter.write_name.Reads as write-name-reads
 use Rattle.listing.proofs.path.write_path.Reads as write-path-reads
 use Rattle.listing.proofs.write.put_bytes.Reads as put-bytes-reads
-use Rattle.listing.proofs.parameter.+write_call_write_hash_write_held_write_keys_write_least_keys_write_many_keys_write_param_write_params_write_subexpression.{
+use Rattle.listing.proofs.parameter.+writers.{
   statement,
 }
-use Rattle.listing.proofs.parameter.+write_call_write_hash_write_held_write_keys_write_least_keys_write_many_keys_write_param_write_params_write_subexpression.Tie.{
+use Rattle.listing.proofs.parameter.+writers.Tie.{
   close,
 }
 
