@@ -1,13 +1,12 @@
 -- The bytes of an expression's children, piece by piece as the writers store them: a call, and the block parameters behind it. Assumes nothing.
 use Prim.Native.Nat.{ℕ, ◌≤◌}
-use native.Mathlib.Omega.{arith}
-use mathlib.Core.Path.{◌≡◌, refl, sym, ap, subst, ◌∙◌}
+use mathlib.Core.Path.{◌≡◌, refl, sym, subst, ◌∙◌}
 use mathlib.Core.List.{List, [], ◌∷◌, ◌++◌, append-nil, append_assoc}
 use lib.ListN.{length}
 use Rattle.support.specs.Bytes.{Bytes, ascii}
 use Rattle.expression.specs.Expression.{Call, call, Keys, no_keys, key, Expression, no_block_param, single, pair}
 use Rattle.expression.specs.Expression as Block
-use Rattle.expression.specs.Read.{Fault, Read, failed}
+use Rattle.expression.specs.Read.{Fault, failed}
 use Rattle.expression.specs.Answers.{block_means, call_means, call_or, expression_means, ExpressionIs}
 use Rattle.expression.specs.declared.parameter.BlockParam.{BlockParam}
 use Rattle.expression.specs.declared.parameter.Subexpression.{Subexpression}
@@ -15,7 +14,7 @@ use Rattle.expression.specs.declared.parameter.ExpressionSpec.{ExpressionSpec}
 use Rattle.expression.specs.declared.parameter.ExpressionRead.TheVariants as ExpressionRead
 use Rattle.listing.specs.Quoted.{quoted, escaped}
 use Rattle.listing.specs.Form.{Word, quote, line, write_field, write_fields, write_head, Forms, nil, write_form, write_forms}
-use Rattle.listing.specs.Listing.{param_form, call_forms, param_forms, key_forms, block_param_forms}
+use Rattle.listing.specs.Listing.{param_form, call_forms, key_forms, block_param_forms}
 use Rattle.listing.specs.Children.{block_or, expression_at, decorator_children, helper_children}
 use Rattle.listing.specs.Written.{largest, Written}
 use Rattle.listing.proofs.Writes.{written_none, written_then}

@@ -17,7 +17,6 @@ use Rattle.expression.specs.Read.{Read, done, failed, and_then, pure, ◌>>=◌,
 use Rattle.expression.specs.Readers.{read_block_param, hash_with, part_with, read_param, read_hash, read_parts}
 use Rattle.expression.specs.Answers.{param_means, part_means, hash_means, parts_read, keys_read, FirstPart}
 use Rattle.expression.specs.declared.parameter.Part.{Part}
-use Rattle.expression.specs.declared.parameter.Part.TheVariants as Part
 use Rattle.expression.specs.declared.parameter.Parts.{Parts}
 use Rattle.expression.specs.declared.parameter.Hash.{Hash}
 use Rattle.expression.specs.declared.parameter.Parameter.{Parameter}
@@ -26,7 +25,6 @@ use Rattle.expression.proofs.Equations.{parts_end, parts_stop, parts_next}
 use Rattle.expression.proofs.Lists.{one, tail, along}
 use Rattle.listing.specs.Held.{first_text, value_of, entry_key, entry_value, EntryRead, EntryIs, All, InOrder, put_entry, key_count, CellsHold, EntryHeld, PartHeld, KeysHeld, HeldIs}
 use Rattle.listing.specs.declared.keys.Held.{Held}
-use Rattle.listing.specs.declared.keys.Held.TheVariants as Held
 use Rattle.listing.proofs.Entries.{all_put, order_put, onto, onto_put, onto_none, at_least}
 
 -- ---- the number and the key of an entry

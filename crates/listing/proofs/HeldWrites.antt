@@ -17,7 +17,6 @@ use Rattle.expression.specs.declared.parameter.Parts.{Parts}
 use Rattle.expression.specs.declared.parameter.Hash.{Hash}
 use Rattle.expression.specs.declared.parameter.Fault.{Fault}
 use Rattle.expression.specs.declared.parameter.HashRead.{HashRead}
-use Rattle.expression.specs.declared.parameter.HashRead.TheVariants as HashRead
 use Rattle.expression.specs.declared.again.Bound.TheVariants as Bound
 use Rattle.expression.proofs.Lists.{not_failed, keys_all_lem}
 use Rattle.listing.specs.Form.{nil, write_form, write_forms}

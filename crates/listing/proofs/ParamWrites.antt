@@ -16,7 +16,6 @@ use Rattle.expression.specs.Readers.{read_expression}
 use Rattle.expression.specs.Answers.{literal_means, call_or, param_means, parts_read, params_read, keys_read, call_means}
 use Rattle.expression.specs.Again.{ParamStepIs, KeyStepIs, keys_left, Entered}
 use Rattle.expression.specs.declared.parameter.Parameter.{Parameter}
-use Rattle.expression.specs.declared.parameter.Parameter.TheVariants as Parameter
 use Rattle.expression.specs.declared.parameter.Subexpression.{Subexpression}
 use Rattle.expression.specs.declared.parameter.ExpressionSpec.{ExpressionSpec}
 use Rattle.expression.specs.declared.parameter.Parts.{Parts}
@@ -24,7 +23,6 @@ use Rattle.expression.specs.declared.parameter.Literal.{Literal}
 use Rattle.expression.specs.declared.parameter.Hash.{Hash}
 use Rattle.expression.specs.declared.again.ParamStep.TheVariants as ParamStep
 use Rattle.expression.specs.declared.again.Bound.{Bound}
-use Rattle.expression.specs.declared.again.Bound.TheVariants as Bound
 use Rattle.expression.specs.declared.again.KeyStep.TheVariants as KeyStep
 use Rattle.listing.specs.Quoted.{quoted, escaped}
 use Rattle.listing.specs.Form.{Word, write_field, write_head, write_fields, Forms, nil, write_form, write_forms}

@@ -10,7 +10,6 @@ use Rattle.expression.specs.declared.parameter.Part as declared
 use Rattle.expression.specs.declared.parameter.Part.TheVariants as Part
 use Rattle.expression.specs.declared.parameter.Parts.{Parts}
 use Rattle.listing.specs.declared.keys.Held.{Held}
-use Rattle.listing.specs.declared.keys.Held.TheVariants as Held
 
 -- ---- entries
 

@@ -1,0 +1,28 @@
+-- `listing::children::write_decorator` meets its contract: the call that its link gives, or an empty one. Assumes nothing.
+use Rattle.expression.proofs.Cases as cases
+use Rattle.listing.proofs.ChildWrites as children
+use Rattle.listing.proofs.Writes as writes
+use Rattle.listing.proofs.children.write_decorator.Goals as goal
+
+pub shape_of-out-in_default : goal.shape_of-out-in_default
+shape_of-out-in_default c = writes.written_length c.put_bytes.ensures
+
+pub returns-in_default : goal.returns-in_default
+returns-in_default c =
+    let args = c.args in
+    let parse-expression = c.parse_expression-r in
+    children.decorator_empty args.text.now args.words.now args.link (cases.expression_failed c.in_default.is parse-expression.ensures) c.put_bytes.ensures
+
+pub write_call-requires : goal.write_call-requires
+write_call-requires c =
+    let parse-expression = c.parse_expression-r in
+    (cases.expression_done c.in-Done.is parse-expression.ensures).linked.parts
+
+pub shape_of-out : goal.shape_of-out
+shape_of-out c = writes.written_length c.write_call.ensures
+
+pub returns : goal.returns
+returns c =
+    let args = c.args in
+    let parse-expression = c.parse_expression-r in
+    children.decorator_written args.text.now args.words.now args.link (cases.expression_done c.in-Done.is parse-expression.ensures) c.write_call.ensures

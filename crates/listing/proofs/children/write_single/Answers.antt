@@ -1,0 +1,23 @@
+-- `listing::children::write_single` meets its contract: the pieces of the form, one after the other. Assumes nothing.
+use native.Mathlib.Omega.{arith}
+use mathlib.Core.Path.{◌∙◌}
+use Rattle.listing.proofs.ChildWrites as children
+use Rattle.listing.proofs.Writes as writes
+use Rattle.listing.proofs.PathWrites as paths
+use Rattle.listing.proofs.children.write_single.Goals as goal
+
+pub shape_of-out : goal.shape_of-out
+shape_of-out c =
+    let write-part = c.write_part-q in
+    let put-bytes = c.put_bytes-p in
+    writes.written_length c.put_bytes.ensures
+    ∙ writes.written_length write-part.ensures
+    ∙ writes.written_length put-bytes.ensures
+
+pub returns : goal.returns
+returns c =
+    let good = c.well_formed in
+    let put-bytes = c.put_bytes-p in
+    let write-part = c.write_part-q in
+    rw (children.single_bytes _)
+    (paths.three (omega (arith, good.0.0)) put-bytes.ensures write-part.ensures c.put_bytes.ensures)

@@ -1,0 +1,307 @@
+-- The writers of parameters, keys and calls meet their contracts: what is written falls in size from call to call, and the loops write what is left. Assumes nothing.
+use native.Mathlib.Omega.{arith}
+use mathlib.Core.Path.{ap, ◌∙◌}
+use Rattle.listing.specs.Listing.{param_form}
+use Rattle.expression.specs.Answers.{param_means}
+use Rattle.expression.proofs.Lists.{params_read_lem, keys_read_lem}
+use Rattle.expression.proofs.Cases as cases
+use Rattle.listing.proofs.Size.{param_size}
+use Rattle.listing.proofs.ParamWrites as params
+use Rattle.listing.proofs.HeldKeys as held-keys
+use Rattle.listing.proofs.HeldWrites as held_writes
+use Rattle.listing.proofs.PathWrites as paths
+use Rattle.listing.proofs.Writes as writes
+use Rattle.listing.proofs.parameter.+writers.Goals as goal
+
+pub write_call-write_param-p-requires : goal.write_call-write_param-p-requires
+write_call-write_param-p-requires t c =
+    let a = c.args in
+    let e = params.call_size_lem a.text.now a.words.now a.name a.parts c.requires in (omega (arith, c.decreases), tt)
+
+pub write_call-write_params-q-requires : goal.write_call-write_params-q-requires
+write_call-write_params-q-requires t c =
+    let a = c.args in
+    let e = params.call_size_lem a.text.now a.words.now a.name a.parts c.requires in (omega (arith, c.decreases), c.requires)
+
+pub write_call-write_keys-requires : goal.write_call-write_keys-requires
+write_call-write_keys-requires t c =
+    let a = c.args in
+    let e = params.call_size_lem a.text.now a.words.now a.name a.parts c.requires in (omega (arith, c.decreases), c.requires)
+
+pub write_call-shape_of-out : goal.write_call-shape_of-out
+write_call-shape_of-out t c =
+    let write-params = c.write_params-q in
+    let write-param = c.write_param-p in
+    writes.written_length c.write_keys.ensures
+    ∙ writes.written_length write-params.ensures
+    ∙ writes.written_length write-param.ensures
+
+pub write_call-returns : goal.write_call-returns
+write_call-returns t c =
+    let good = c.well_formed in
+    let write-param = c.write_param-p in
+    let write-params = c.write_params-q in
+    rw (params.call_bytes_lem _ _ _)
+    (paths.three (omega (arith, good.0.0)) write-param.ensures write-params.ensures c.write_keys.ensures)
+
+pub write_hash-write_param-q-requires : goal.write_hash-write_param-q-requires
+write_hash-write_param-q-requires t c = (omega (arith, c.decreases), tt)
+
+pub write_hash-shape_of-out : goal.write_hash-shape_of-out
+write_hash-shape_of-out t c =
+    let write-param = c.write_param-q in
+    let write-key = c.write_key-p in
+    writes.written_length c.put_bytes.ensures
+    ∙ writes.written_length write-param.ensures
+    ∙ writes.written_length write-key.ensures
+
+pub write_hash-returns : goal.write_hash-returns
+write_hash-returns t c =
+    let good = c.well_formed in
+    let write-key = c.write_key-p in
+    let write-param = c.write_param-q in
+    rw (params.hash_bytes _ _)
+    (writes.written_then (omega (arith, good.0.0)) write-key.ensures
+    (writes.written_then (omega (arith, good.0.0, writes.written_length write-key.ensures)) write-param.ensures c.put_bytes.ensures))
+
+pub write_held-loop-i-init : goal.write_held-loop-i-init
+write_held-loop-i-init t c =
+    let a = c.args in
+    held_writes.held_begins a.text.now a.words.now a.depth a.held.now a.out.now a.at (omega arith)
+
+pub write_held-shape_of-out-in_default : goal.write_held-shape_of-out-in_default
+write_held-shape_of-out-in_default t c = c.loop-i.invariant.same
+
+pub write_held-returns-in_default : goal.write_held-returns-in_default
+write_held-returns-in_default t c =
+    let a = c.args in
+    let l = c.loop-i in
+    absurd (held_writes.entry_read a.text.now a.words.now a.depth a.held.now l.i c.requires c.loop-i-test.true c.in_default.is c.parse_hash-r.ensures)
+
+pub write_held-write_hash-p-requires : goal.write_held-write_hash-p-requires
+write_held-write_hash-p-requires t c =
+    let l = c.loop-i in
+    let s = held_writes.held_less l.invariant c.loop-i-test.true c.in-Done.is c.parse_hash-r.ensures in
+    (omega (arith, c.decreases), tt)
+
+pub write_held-overflow_add-i : goal.write_held-overflow_add-i
+write_held-overflow_add-i t c = omega (arith, c.loop-i-test.true, c.well_formed)
+
+pub write_held-loop-i-smaller : goal.write_held-loop-i-smaller
+write_held-loop-i-smaller t c = omega (arith, c.loop-i-test.true)
+
+pub write_held-loop-i-preserved : goal.write_held-loop-i-preserved
+write_held-loop-i-preserved t c =
+    let l = c.loop-i in
+    held_writes.held_on l.invariant c.loop-i-test.true c.in-Done.is c.parse_hash-r.ensures (omega (arith, c.well_formed.0.0)) c.write_hash-p.ensures
+
+pub write_held-shape_of-out : goal.write_held-shape_of-out
+write_held-shape_of-out t c = c.loop-i.invariant.same
+
+pub write_held-returns : goal.write_held-returns
+write_held-returns t c = held_writes.held_done c.loop-i.invariant c.loop-i-test.false
+
+pub write_keys-hold_keys-h-requires : goal.write_keys-hold_keys-h-requires
+write_keys-hold_keys-h-requires t c = c.requires
+
+pub write_keys-write_many_keys-requires : goal.write_keys-write_many_keys-requires
+write_keys-write_many_keys-requires t c = (omega (arith, c.decreases), c.requires)
+
+pub write_keys-shape_of-out-in_default : goal.write_keys-shape_of-out-in_default
+write_keys-shape_of-out-in_default t c = writes.written_length c.write_many_keys.ensures
+
+pub write_keys-returns-in_default : goal.write_keys-returns-in_default
+write_keys-returns-in_default t c = c.write_many_keys.ensures
+
+pub write_keys-slice_bounds-write_held-end : goal.write_keys-slice_bounds-write_held-end
+write_keys-slice_bounds-write_held-end t c =
+    let k = held-keys.keys_held c.in-Keys.is c.hold_keys-h.ensures in omega (arith, c.hold_keys-h.auto.held)
+
+pub write_keys-write_held-requires : goal.write_keys-write_held-requires
+write_keys-write_held-requires t c =
+    let k = held-keys.keys_held c.in-Keys.is c.hold_keys-h.ensures in
+    (omega (arith, c.decreases, held_writes.held_size k), held_writes.all_read k)
+
+pub write_keys-shape_of-out : goal.write_keys-shape_of-out
+write_keys-shape_of-out t c = writes.written_length c.write_held.ensures
+
+pub write_keys-returns : goal.write_keys-returns
+write_keys-returns t c =
+    held_writes.held_written (held-keys.keys_held c.in-Keys.is c.hold_keys-h.ensures) c.write_held.ensures
+
+pub write_least_keys-loop-h-init : goal.write_least_keys-loop-h-init
+write_least_keys-loop-h-init t c =
+    let a = c.args in
+    params.keys_begin a.text.now a.words.now a.parts a.out.now a.at (omega arith) c.requires
+
+pub write_least_keys-write_hash-p-requires : goal.write_least_keys-write_hash-p-requires
+write_least_keys-write_hash-p-requires t c =
+    let i = cases.key_found c.in-Key.is c.next_key-n.ensures in
+    let l = params.keys_less c.loop-h.invariant i in
+    (omega (arith, c.decreases), tt)
+
+pub write_least_keys-loop-h-smaller : goal.write_least_keys-loop-h-smaller
+write_least_keys-loop-h-smaller t c =
+    params.keys_fall c.loop-h.invariant (cases.key_found c.in-Key.is c.next_key-n.ensures)
+
+pub write_least_keys-loop-h-preserved : goal.write_least_keys-loop-h-preserved
+write_least_keys-loop-h-preserved t c =
+    params.keys_on c.loop-h.invariant (cases.key_found c.in-Key.is c.next_key-n.ensures) (omega (arith, c.well_formed.0.0)) c.write_hash-p.ensures
+
+pub write_least_keys-shape_of-out-in-End : goal.write_least_keys-shape_of-out-in-End
+write_least_keys-shape_of-out-in-End t c = c.loop-h.invariant.same
+
+pub write_least_keys-returns-in-End : goal.write_least_keys-returns-in-End
+write_least_keys-returns-in-End t c =
+    let l = c.loop-h in
+    params.keys_done l.invariant (cases.key_none c.in-End.is c.next_key-n.ensures)
+
+pub write_least_keys-shape_of-out-in-Failed : goal.write_least_keys-shape_of-out-in-Failed
+write_least_keys-shape_of-out-in-Failed t c = c.loop-h.invariant.same
+
+pub write_least_keys-returns-in-Failed : goal.write_least_keys-returns-in-Failed
+write_least_keys-returns-in-Failed t c =
+    let l = c.loop-h in
+    absurd (keys_read_lem l.invariant.reads (cases.key_failed c.in-Failed.is c.next_key-n.ensures))
+
+pub write_many_keys-hold_keys-h-requires : goal.write_many_keys-hold_keys-h-requires
+write_many_keys-hold_keys-h-requires t c = c.requires
+
+pub write_many_keys-write_least_keys-requires : goal.write_many_keys-write_least_keys-requires
+write_many_keys-write_least_keys-requires t c = (omega (arith, c.decreases), c.requires)
+
+pub write_many_keys-shape_of-out-in_default : goal.write_many_keys-shape_of-out-in_default
+write_many_keys-shape_of-out-in_default t c = writes.written_length c.write_least_keys.ensures
+
+pub write_many_keys-returns-in_default : goal.write_many_keys-returns-in_default
+write_many_keys-returns-in_default t c = c.write_least_keys.ensures
+
+pub write_many_keys-slice_bounds-write_held-end : goal.write_many_keys-slice_bounds-write_held-end
+write_many_keys-slice_bounds-write_held-end t c =
+    let k = held-keys.keys_held c.in-Keys.is c.hold_keys-h.ensures in omega (arith, c.hold_keys-h.auto.held)
+
+pub write_many_keys-write_held-requires : goal.write_many_keys-write_held-requires
+write_many_keys-write_held-requires t c =
+    let k = held-keys.keys_held c.in-Keys.is c.hold_keys-h.ensures in
+    (omega (arith, c.decreases, held_writes.held_size k), held_writes.all_read k)
+
+pub write_many_keys-shape_of-out : goal.write_many_keys-shape_of-out
+write_many_keys-shape_of-out t c = writes.written_length c.write_held.ensures
+
+pub write_many_keys-returns : goal.write_many_keys-returns
+write_many_keys-returns t c =
+    held_writes.held_written (held-keys.keys_held c.in-Keys.is c.hold_keys-h.ensures) c.write_held.ensures
+
+pub write_param-write_subexpression-requires : goal.write_param-write_subexpression-requires
+write_param-write_subexpression-requires t c =
+    let a = c.args in
+    let e = ap (λ z. param_size (param_means a.text.now a.words.now z)) c.in-Subexpression.is in
+    (omega (arith, c.decreases), tt)
+
+pub write_param-shape_of-out-in-Name : goal.write_param-shape_of-out-in-Name
+write_param-shape_of-out-in-Name t c = writes.written_length c.write_name.ensures
+
+pub write_param-returns-in-Name : goal.write_param-returns-in-Name
+unfolding param_means
+write_param-returns-in-Name t c =
+    let a = c.args in
+    params.param_is a.text.now a.words.now c.in-Name.is c.write_name.ensures
+
+pub write_param-shape_of-out-in-Path : goal.write_param-shape_of-out-in-Path
+write_param-shape_of-out-in-Path t c = writes.written_length c.write_path.ensures
+
+pub write_param-returns-in-Path : goal.write_param-returns-in-Path
+unfolding param_means param_form
+write_param-returns-in-Path t c =
+    let a = c.args in
+    params.param_is a.text.now a.words.now c.in-Path.is c.write_path.ensures
+
+pub write_param-shape_of-out-in-Literal : goal.write_param-shape_of-out-in-Literal
+write_param-shape_of-out-in-Literal t c = writes.written_length c.write_literal.ensures
+
+pub write_param-returns-in-Literal : goal.write_param-returns-in-Literal
+unfolding param_means
+write_param-returns-in-Literal t c =
+    let a = c.args in
+    params.param_is a.text.now a.words.now c.in-Literal.is c.write_literal.ensures
+
+pub write_param-shape_of-out-in-Subexpression : goal.write_param-shape_of-out-in-Subexpression
+write_param-shape_of-out-in-Subexpression t c = writes.written_length c.write_subexpression.ensures
+
+pub write_param-returns-in-Subexpression : goal.write_param-returns-in-Subexpression
+write_param-returns-in-Subexpression t c =
+    let a = c.args in
+    params.param_is a.text.now a.words.now c.in-Subexpression.is c.write_subexpression.ensures
+
+pub write_params-loop-v-init : goal.write_params-loop-v-init
+write_params-loop-v-init t c =
+    let a = c.args in
+    params.params_begin a.text.now a.words.now a.parts a.out.now a.at (omega arith) c.requires
+
+pub write_params-write_param-p-requires : goal.write_params-write_param-p-requires
+write_params-write_param-p-requires t c =
+    let next_param = c.next_param-n in
+    let l = c.loop-v in
+    let i = (cases.step_found c.in-Param.is next_param.ensures) in let l = params.params_less l.invariant i in
+    (omega (arith, c.decreases), tt)
+
+pub write_params-loop-v-smaller : goal.write_params-loop-v-smaller
+write_params-loop-v-smaller t c =
+    let next_param = c.next_param-n in
+    let i = (cases.step_found c.in-Param.is next_param.ensures).means in omega arith
+
+pub write_params-loop-v-preserved : goal.write_params-loop-v-preserved
+write_params-loop-v-preserved t c =
+    let l = c.loop-v in
+    let next_param = c.next_param-n in
+    let good = c.well_formed in
+    params.params_on l.invariant (cases.step_found c.in-Param.is next_param.ensures) (omega (arith, good.0.0))
+    c.write_param-p.ensures
+
+pub write_params-shape_of-out-in-End : goal.write_params-shape_of-out-in-End
+write_params-shape_of-out-in-End t c = c.loop-v.invariant.same
+
+pub write_params-returns-in-End : goal.write_params-returns-in-End
+write_params-returns-in-End t c =
+    let l = c.loop-v in
+    params.params_done l.invariant (cases.step_none c.in-End.is c.next_param-n.ensures)
+
+pub write_params-shape_of-out-in-Failed : goal.write_params-shape_of-out-in-Failed
+write_params-shape_of-out-in-Failed t c = c.loop-v.invariant.same
+
+pub write_params-returns-in-Failed : goal.write_params-returns-in-Failed
+write_params-returns-in-Failed t c =
+    let l = c.loop-v in
+    absurd (params_read_lem l.invariant.reads (cases.step_failed c.in-Failed.is c.next_param-n.ensures))
+
+pub write_subexpression-shape_of-out-in_default : goal.write_subexpression-shape_of-out-in_default
+write_subexpression-shape_of-out-in_default t c = writes.written_length c.put_bytes.ensures
+
+pub write_subexpression-returns-in_default : goal.write_subexpression-returns-in_default
+write_subexpression-returns-in_default t c =
+    let enter = c.enter-r in
+    let a = c.args in
+    params.sub_empty a.text.now a.words.now a.s (cases.not_entered c.in_default.is enter.ensures) c.put_bytes.ensures
+
+pub write_subexpression-write_call-q-requires : goal.write_subexpression-write_call-q-requires
+write_subexpression-write_call-q-requires t c =
+    let enter = c.enter-r in
+    let i = (cases.entered c.in-Done.is enter.ensures) in let e = params.sub_size i in
+    (omega (arith, c.decreases), i.linked.parts)
+
+pub write_subexpression-shape_of-out : goal.write_subexpression-shape_of-out
+write_subexpression-shape_of-out t c =
+    let write-call = c.write_call-q in
+    let put-bytes = c.put_bytes-p in
+    writes.written_length c.put_bytes-2.ensures
+    ∙ writes.written_length write-call.ensures
+    ∙ writes.written_length put-bytes.ensures
+
+pub write_subexpression-returns : goal.write_subexpression-returns
+write_subexpression-returns t c =
+    let enter = c.enter-r in
+    let good = c.well_formed in
+    let put-bytes = c.put_bytes-p in
+    let write-call = c.write_call-q in
+    params.sub_written (cases.entered c.in-Done.is enter.ensures) (omega (arith, good.0.0)) put-bytes.ensures
+    write-call.ensures c.put_bytes-2.ensures

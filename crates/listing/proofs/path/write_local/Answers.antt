@@ -1,0 +1,35 @@
+-- `listing::path::write_local` meets its contract: the pieces of the form, one after the other. Assumes nothing.
+use native.Mathlib.Omega.{arith}
+use mathlib.Core.Path.{◌∙◌}
+use Rattle.listing.proofs.PathWrites as paths
+use Rattle.listing.proofs.Writes as writes
+use Rattle.listing.proofs.path.write_local.Goals as goal
+
+pub shape_of-out : goal.shape_of-out
+shape_of-out c =
+    let write-part2 = c.write_part-v in
+    let put-bytes3 = c.put_bytes-u in
+    let write-part = c.write_part-t in
+    let put-bytes2 = c.put_bytes-s in
+    let write-decimal = c.write_decimal-q in
+    let put-bytes = c.put_bytes-p in
+    writes.written_length c.put_bytes.ensures
+    ∙ writes.written_length write-part2.ensures
+    ∙ writes.written_length put-bytes3.ensures
+    ∙ writes.written_length write-part.ensures
+    ∙ writes.written_length put-bytes2.ensures
+    ∙ writes.written_length write-decimal.ensures
+    ∙ writes.written_length put-bytes.ensures
+
+pub returns : goal.returns
+returns c =
+    let good = c.well_formed in
+    let put-bytes = c.put_bytes-p in
+    let write-decimal = c.write_decimal-q in
+    let put-bytes2 = c.put_bytes-s in
+    let write-part = c.write_part-t in
+    let put-bytes3 = c.put_bytes-u in
+    let write-part2 = c.write_part-v in
+    rw (paths.local_bytes _ _ _)
+    (paths.seven (omega (arith, good.0.0)) put-bytes.ensures write-decimal.ensures put-bytes2.ensures
+    write-part.ensures put-bytes3.ensures write-part2.ensures c.put_bytes.ensures)

@@ -1,0 +1,52 @@
+-- `listing::path::write_segment` meets its contract: a form for each case of the segment. Assumes nothing.
+use native.Mathlib.Omega.{arith}
+use mathlib.Core.Path.{◌∙◌}
+use Rattle.listing.specs.Form.{write_form, write_head, write_fields}
+use Rattle.listing.proofs.PathWrites as paths
+use Rattle.listing.proofs.Writes as writes
+use Rattle.listing.proofs.path.write_segment.Goals as goal
+
+pub shape_of-out-in-Root : goal.shape_of-out-in-Root
+shape_of-out-in-Root c = writes.written_length c.put_bytes.ensures
+
+pub returns-in-Root : goal.returns-in-Root
+unfolding write_form write_head write_fields
+returns-in-Root c =
+    let a = c.args in
+    paths.segment_is a.text.now a.segment _ c.in-Root.is c.put_bytes.ensures
+
+pub shape_of-out-in-Here : goal.shape_of-out-in-Here
+shape_of-out-in-Here c = writes.written_length c.put_bytes-in-Here.ensures
+
+pub returns-in-Here : goal.returns-in-Here
+unfolding write_form write_head write_fields
+returns-in-Here c =
+    let a = c.args in
+    paths.segment_is a.text.now a.segment _ c.in-Here.is c.put_bytes-in-Here.ensures
+
+pub shape_of-out-in-Up : goal.shape_of-out-in-Up
+shape_of-out-in-Up c = writes.written_length c.put_bytes-in-Up.ensures
+
+pub returns-in-Up : goal.returns-in-Up
+unfolding write_form write_head write_fields
+returns-in-Up c =
+    let a = c.args in
+    paths.segment_is a.text.now a.segment _ c.in-Up.is c.put_bytes-in-Up.ensures
+
+pub shape_of-out-in-Named : goal.shape_of-out-in-Named
+shape_of-out-in-Named c =
+    let write-part = c.write_part-q in
+    let put-bytes4 = c.put_bytes-p in
+    writes.written_length c.put_bytes-in-Named.ensures
+    ∙ writes.written_length write-part.ensures
+    ∙ writes.written_length put-bytes4.ensures
+
+pub returns-in-Named : goal.returns-in-Named
+returns-in-Named c =
+    let a = c.args in
+    let good = c.well_formed in
+    let put-bytes4 = c.put_bytes-p in
+    let write-part = c.write_part-q in
+    paths.segment_is a.text.now a.segment _ c.in-Named.is
+    (rw (paths.seg_bytes _)
+    (paths.three (omega (arith, good.0.0)) put-bytes4.ensures write-part.ensures c.put_bytes-in-Named.ensures))

@@ -1,0 +1,33 @@
+-- `listing::write::write_decimal` meets its contract. The measure is the number. Its digits are those of its tenth, written by the call, and
+use native.Mathlib.Omega.{arith}
+use mathlib.Core.Path.{◌∙◌}
+use Rattle.listing.proofs.Writes as writes
+use Rattle.listing.proofs.write.+write_decimal.Goals as goal
+
+pub overflow_cast-n : goal.overflow_cast-n
+overflow_cast-n t c = omega (arith, c.if-n-lt10.true)
+
+pub overflow_add-n : goal.overflow_add-n
+overflow_add-n t c = omega (arith, c.if-n-lt10.true)
+
+pub shape_of-out-then-n-lt10 : goal.shape_of-out-then-n-lt10
+shape_of-out-then-n-lt10 t c = writes.written_length c.put.ensures
+
+pub returns-then-n-lt10 : goal.returns-then-n-lt10
+returns-then-n-lt10 t c =
+    let a = c.args in
+    writes.decimal_one_written a.n c.if-n-lt10.true c.put.ensures
+
+pub write_decimal-p-requires : goal.write_decimal-p-requires
+write_decimal-p-requires t c = (omega (arith, c.decreases, c.if-n-lt10.false), tt)
+
+pub shape_of-out : goal.shape_of-out
+shape_of-out t c =
+    let write-decimal = c.write_decimal-p in
+    writes.written_length c.put-2.ensures ∙ writes.written_length write-decimal.ensures
+
+pub returns : goal.returns
+returns t c =
+    let a = c.args in
+    let write-decimal = c.write_decimal-p in
+    writes.decimal_more_written a.n c.if-n-lt10.false (omega arith) write-decimal.ensures c.put-2.ensures
