@@ -7,9 +7,7 @@ use Rattle.support.specs.Bytes.{if}
 use Rattle.template.specs.Turn.{head_of, ref_chain_head, turn_of}
 use Rattle.template.specs.declared.visit.Act.{Act}
 use Rattle.template.specs.declared.turn.Turn.{Turn}
-use Rattle.template.specs.declared.turn.Turn.TheVariants as Turn
 use Rattle.template.specs.declared.turn.ChainHead.{ChainHead}
-use Rattle.template.specs.declared.turn.ChainHead.TheVariants as ChainHead
 
 -- no node
 pub none_at : (n : ℕ) → head_of n ≡ ChainHead.None → eqb n 0 ≡ true

@@ -2,11 +2,10 @@
 use Prim.Native.Nat.{ℕ}
 use mathlib.Core.Path.{◌≡◌, refl, sym, subst, ap}
 use mathlib.Core.List.{List}
-use mathlib.Core.Bool.{Bool}
 use lib.ListN.{length}
 use Rattle.support.specs.Bytes.{Bytes}
 use Rattle.listing.specs.Listing.{listing}
-use Rattle.template.specs.Result.{Result, accepted, refused, and_then}
+use Rattle.template.specs.Result.{refused, and_then}
 use Rattle.template.specs.Checks.{checks}
 use Rattle.template.specs.Walk.{read_spans}
 use Rattle.template.specs.Compile.{prevent_indent, is_partial, branch_reading, fit, answer}

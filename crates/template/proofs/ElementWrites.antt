@@ -13,7 +13,7 @@ use Rattle.support.specs.Position.{Place}
 use Rattle.support.specs.declared.position.Place as code
 use Rattle.support.proofs.ByteLaws.{no_bytes}
 use Rattle.listing.specs.Quoted.{digits, decimal, quoted}
-use Rattle.listing.specs.Form.{Word, Field, spell, write_field, write_fields, write_head, nil, line, write_form, write_forms}
+use Rattle.listing.specs.Form.{Word, Field, spell, write_field, write_fields, write_head, nil, write_form, write_forms}
 use Rattle.listing.specs.Tree.{decor_block, partial_block}
 use Rattle.listing.specs.Tree as T
 use Rattle.listing.specs.Listing.{bit, place_field, indent_field, call_forms, item_form}
@@ -21,7 +21,7 @@ use Rattle.listing.specs.Children.{decorator_children, helper_children}
 use Rattle.listing.specs.Written.{largest, Written}
 use Rattle.listing.proofs.Writes.{written_none}
 use Rattle.template.specs.Step.{any_blanks}
-use Rattle.template.specs.Element.{place_means, link_of, raw_means, comment_means, call_at, indent_means, item_means, head_means, head_at, wrap_means, nothing, role_of, RawGood, Sound}
+use Rattle.template.specs.Element.{place_means, link_of, raw_means, comment_means, call_at, indent_means, item_means, head_means, head_at, wrap_means, role_of, RawGood, Sound}
 use Rattle.template.specs.Opening.{block_opening, wrap_opening, decorated_bytes, opening_by, opening}
 use Rattle.template.specs.declared.element.RawString.{RawString}
 use Rattle.template.specs.declared.element.Comment.{Comment}

@@ -20,7 +20,6 @@ use Rattle.template.specs.Links.{trim_end_of}
 use Rattle.template.specs.Visit.{with_marks, MarksAre, HereIs, Tells, gap_effect, trim_effect, act_effect, applied, Allowed, GapMade, StepIs, VisitMeans}
 use Rattle.template.specs.Turn.{ref_chain_head, plan_of, turn_of, joined_of, gapped_of, still_step, LookIs}
 use Rattle.template.specs.declared.element.Back.{Back}
-use Rattle.template.specs.declared.element.Back.TheVariants as Back
 use Rattle.template.specs.declared.element.Element.{Element}
 use Rattle.template.specs.declared.frame.Frame.{Frame}
 use Rattle.template.specs.declared.frame.Opened.TheVariants as O

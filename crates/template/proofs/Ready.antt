@@ -4,7 +4,7 @@ use Prim.Native.Nat.{ℕ, ◌+◌, ◌<◌, ◌≤◌}
 use native.Mathlib.Omega.{arith}
 use mathlib.Core.Path.{◌≡◌, refl, ap, sym, subst, ◌∙◌}
 use mathlib.Core.Bool.{Bool, true, false}
-use mathlib.Core.Logic.{⊎_elim, ◌⊎◌, inl, inr}
+use mathlib.Core.Logic.{⊎_elim, inl, inr}
 use mathlib.Core.List.{List, [], ◌∷◌}
 use lib.ListN.{length, set, length-set}
 use lib.Seq.{set-get_or}
@@ -22,7 +22,6 @@ use Rattle.template.specs.Links.{followed_by, trim_end_of}
 use Rattle.template.specs.Links as Links
 use Rattle.template.specs.Turn.{ref_chain_head, filled, joined_of, gapped_of}
 use Rattle.template.specs.declared.element.Back.{Back}
-use Rattle.template.specs.declared.element.Back.TheVariants as Back
 use Rattle.template.specs.declared.element.TemplateElement.{TemplateElement}
 use Rattle.template.specs.declared.element.Element.{Element}
 use Rattle.template.specs.declared.frame.Frame.{Frame}

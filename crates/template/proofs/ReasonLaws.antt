@@ -15,7 +15,6 @@ use Rattle.json_path.specs.declared.path.Name.{Name}
 use Rattle.expression.specs.Expression.{Expression, name_of}
 use Rattle.expression.specs.Answers.{as_name_means}
 use Rattle.expression.specs.declared.parameter.AsName.{AsName}
-use Rattle.expression.specs.declared.parameter.AsName.TheVariants as AsName
 use Rattle.listing.specs.Tree as T
 use Rattle.template.specs.Kind.{BlockKind, helper_block, raw_block, decorator_block, partial_block, skipped, block_end, Kind, plain, tagged, kinds, kind_of}
 use Rattle.template.specs.State as S

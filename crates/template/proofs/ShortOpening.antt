@@ -12,11 +12,11 @@ use mir.Val.{Val}
 use denote.Shadow.{shadow}
 use denote.Struct.Declared.{row}
 use Rattle.support.specs.Bytes.{Bytes, ascii, if}
-use Rattle.support.specs.Position.{Place, at, place_of}
+use Rattle.support.specs.Position.{place_of}
 use Rattle.support.specs.TextRules.{trailing_blanks}
 use Rattle.support.specs.declared.position.Place as code
 use Rattle.listing.specs.Quoted.{digits, decimal, quoted}
-use Rattle.listing.specs.Form.{Word, spell, place, write_field, write_head, nil, write_form, write_forms}
+use Rattle.listing.specs.Form.{Word, spell, write_field, write_head, nil, write_form, write_forms}
 use Rattle.listing.specs.Listing.{bit, place_field, indent_field, call_forms, item_form}
 use Rattle.listing.specs.Children.{decorator_children, helper_children}
 use Rattle.template.specs.Step.{any_blanks}

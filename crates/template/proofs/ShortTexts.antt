@@ -16,9 +16,7 @@ use Rattle.listing.specs.Quoted.{digits, decimal, escape, escaped, quoted}
 use Rattle.template.specs.Escapes.{escapes_to, unescaped}
 use Rattle.template.specs.Element.{front_trim, back_trim, raw_escapes, raw_means, comment_means}
 use Rattle.template.specs.declared.element.Front.{Front}
-use Rattle.template.specs.declared.element.Front.TheVariants as Front
 use Rattle.template.specs.declared.element.Back.{Back}
-use Rattle.template.specs.declared.element.Back.TheVariants as Back
 use Rattle.template.specs.declared.element.RawString.{RawString}
 use Rattle.template.specs.declared.element.Comment.{Comment}
 

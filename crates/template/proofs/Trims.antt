@@ -18,8 +18,6 @@ use Rattle.template.specs.Element.{back_trim, raw_means, item_means, Role, leaf,
 use Rattle.template.specs.Store.{element_at, Leaf, Node}
 use Rattle.template.specs.Links.{set_element, more_of, trimmed, trim_end_of}
 use Rattle.template.specs.declared.element.Back.{Back}
-use Rattle.template.specs.declared.element.Back.TheVariants as Back
-use Rattle.template.specs.declared.element.RawString.{RawString}
 use Rattle.template.specs.declared.element.TemplateElement.{TemplateElement}
 use Rattle.template.specs.declared.element.TemplateElement.TheVariants as E
 use Rattle.template.specs.declared.element.Element.{Element}

@@ -10,7 +10,7 @@ use lib.Seq.{get_or-set_same, get_or-set_other, set-get_or}
 use lib.Dec.{eqb}
 use borrow.Author.Tests.{eqb-true, eqb-false}
 use Rattle.support.specs.Bytes.{Bytes, if}
-use Rattle.template.specs.State.{Stage, state, Owner, root, helper, in_else, wrapper, Level, level, State, owner_of, owner, add_to, open_of, next_branch, else_branch, close_level, close_block, open_block, sum_open, open_count}
+use Rattle.template.specs.State.{Stage, state, Owner, root, helper, in_else, wrapper, Level, level, State, owner_of, add_to, open_of, next_branch, else_branch, close_level, close_block, open_block, sum_open, open_count}
 use Rattle.template.specs.Nests.{takes_else}
 use Rattle.template.specs.Element.{head_means, empty_element}
 use Rattle.template.specs.Element as role
@@ -26,7 +26,6 @@ use Rattle.template.specs.declared.visit.Act.{Act}
 use Rattle.template.specs.declared.visit.Act.TheVariants as A
 use Rattle.template.specs.declared.visit.Added.TheVariants as N
 use Rattle.template.specs.declared.turn.Turn.{Turn}
-use Rattle.template.specs.declared.turn.Turn.TheVariants as Turn
 use Rattle.template.specs.declared.turn.Plan.{Plan}
 use Rattle.template.specs.declared.turn.Open.{Open}
 use Rattle.template.proofs.Store.{Same, SameBut, at_same, at_other}

@@ -27,7 +27,6 @@ use Rattle.template.specs.Element.{raw_means, item_means, leaf, role_of, Sound, 
 use Rattle.template.specs.Visit.{stage_means, with_marks, MarksAre, HereIs, leaf_means, gap_effect, applied, Made, GapMade}
 use Rattle.template.specs.Visiting.{Visited, KindIs, gap_text, text_element, text_step, raw_front, trim_of}
 use Rattle.template.specs.declared.element.Back.{Back}
-use Rattle.template.specs.declared.element.Back.TheVariants as Back
 use Rattle.template.specs.declared.element.RawString.{RawString}
 use Rattle.template.specs.declared.element.TemplateElement.TheVariants as E
 use Rattle.template.specs.declared.element.Element.{Element}

@@ -1,17 +1,16 @@
 -- What the elements of the store denote: texts, comments and expressions are made from offsets and links when they are listed.
-use Rattle.std.specs.Prelude.{ℕ, zero, suc, ◌≤◌, ◌≡◌, List, [], ◌∷◌, Bool, true, false, eqb, length, take}
+use Rattle.std.specs.Prelude.{ℕ, ◌≤◌, ◌≡◌, List, [], Bool, true, false, eqb, length, take}
 use Rattle.std.proofs.Math.Option.{Option, none, some}
 use Rattle.support.specs.Bytes.{Bytes, if, part}
 use Rattle.support.specs.Utf8.{valid_length, is_char_boundary}
 use Rattle.support.specs.WhiteSpace.{trim_start, trim_end}
 use Rattle.support.specs.TextRules.{trim_end_blanks, trailing_blanks, comment_compact_text, comment_text}
-use Rattle.support.specs.Position.{Place, at, place_of}
+use Rattle.support.specs.Position.{Place, place_of}
 use Rattle.support.specs.declared.position.Place as code
 use Rattle.json_path.specs.Span.{Span, span_count, escapes_from}
 use Rattle.expression.specs.Expression.{Call, BlockParam, as_name, name_of}
 use Rattle.expression.specs.Readers.{max_subexpressions}
 use Rattle.expression.specs.Answers.{call_or, param_means}
-use Rattle.json_path.specs.declared.path.Name as path
 use Rattle.expression.specs.declared.parameter.Subexpression.{Subexpression}
 use Rattle.expression.specs.declared.parameter.Parameter.{Parameter}
 use Rattle.expression.specs.declared.parameter.Parameter.TheVariants as P
@@ -22,9 +21,7 @@ use Rattle.template.specs.Checks.{max_text, max_spans, bad_span_of}
 use Rattle.template.specs.Escapes.{escapes_to, bad_escapes, unescaped}
 use Rattle.template.specs.Step.{trim_line, any_blanks}
 use Rattle.template.specs.declared.element.Front.{Front}
-use Rattle.template.specs.declared.element.Front.TheVariants as Front
 use Rattle.template.specs.declared.element.Back.{Back}
-use Rattle.template.specs.declared.element.Back.TheVariants as Back
 use Rattle.template.specs.declared.element.RawString.{RawString}
 use Rattle.template.specs.declared.element.Comment.{Comment}
 use Rattle.template.specs.declared.element.HelperTemplate.{HelperTemplate}

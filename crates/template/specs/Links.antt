@@ -8,7 +8,6 @@ use Rattle.expression.specs.declared.parameter.AsName.{AsName}
 use Rattle.expression.specs.declared.parameter.Parameter.{Parameter}
 use Rattle.template.specs.Element.{role_of, has_body}
 use Rattle.template.specs.declared.element.Back.{Back}
-use Rattle.template.specs.declared.element.Back.TheVariants as Back
 use Rattle.template.specs.declared.element.RawString.{RawString}
 use Rattle.template.specs.declared.element.TemplateElement.{TemplateElement}
 use Rattle.template.specs.declared.element.TemplateElement.TheVariants as E

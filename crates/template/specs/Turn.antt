@@ -14,14 +14,12 @@ use Rattle.template.specs.declared.visit.Act.TheVariants as A
 use Rattle.template.specs.declared.visit.Added.{Added}
 use Rattle.template.specs.declared.visit.Added.TheVariants as N
 use Rattle.template.specs.declared.turn.ChainHead.{ChainHead}
-use Rattle.template.specs.declared.turn.ChainHead.TheVariants as ChainHead
 use Rattle.template.specs.declared.visit.Options.{Options}
 use Rattle.template.specs.declared.visit.View.{View}
 use Rattle.template.specs.declared.visit.Step.{Step}
 use Rattle.template.specs.declared.visit.Visit.{Visit}
 use Rattle.template.specs.declared.visit.Visit.TheVariants as Vis
 use Rattle.template.specs.declared.turn.Turn.{Turn}
-use Rattle.template.specs.declared.turn.Turn.TheVariants as Turn
 use Rattle.template.specs.declared.turn.Plan.{Plan}
 use Rattle.template.specs.declared.turn.Joined.{Joined}
 use Rattle.template.specs.declared.turn.Open.{Open}

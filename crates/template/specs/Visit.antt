@@ -1,9 +1,9 @@
 -- What a visit of a span answers: why the card is turned away, or the step to take, in terms of the specification's state.
-use Rattle.std.specs.Prelude.{ℕ, suc, ◌+◌, ◌<◌, ◌≤◌, ◌≡◌, List, [], ◌∷◌, Bool, true, false, length}
+use Rattle.std.specs.Prelude.{ℕ, ◌<◌, ◌≤◌, ◌≡◌, List, [], Bool, true, false, length}
 use Rattle.std.proofs.Math.Option.{Option, none, some}
 use Rattle.support.specs.Bytes.{Bytes, if}
 use Rattle.support.specs.Utf8.{is_char_boundary}
-use Rattle.support.specs.Position.{Place, place_at, place_of}
+use Rattle.support.specs.Position.{place_at, place_of}
 use Rattle.json_path.specs.Span.{span_count, spans_from}
 use Rattle.expression.specs.Answers.{as_name_means}
 use Rattle.listing.specs.Tree as T

@@ -22,9 +22,7 @@ use Rattle.template.specs.TagRead.{tag_means}
 use Rattle.template.specs.Asked.{NamesAre}
 use Rattle.template.specs.Visit.{stage_means, with_marks, HereIs, Tells, applied, GapMade, Allowed}
 use Rattle.template.specs.declared.element.Front.{Front}
-use Rattle.template.specs.declared.element.Front.TheVariants as Front
 use Rattle.template.specs.declared.element.Back.{Back}
-use Rattle.template.specs.declared.element.Back.TheVariants as Back
 use Rattle.template.specs.declared.element.RawString.{RawString}
 use Rattle.template.specs.declared.element.HelperTemplate.{HelperTemplate}
 use Rattle.template.specs.declared.element.DecoratorTemplate.{DecoratorTemplate}

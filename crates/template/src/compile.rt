@@ -72,8 +72,8 @@ fn compile_large(text: &[u8], words: &[u32], o: Options, out: &mut [u8]) -> Answ
 
 // The same for at most 320 spans.
 fn compile_few(text: &[u8], words: &[u32], o: Options, out: &mut [u8]) -> Answer
-    requires fact_1 { Good text.now words.now }
-    requires fact_2 { 2 * span_count words.now < 641 }
+    requires good { Good text.now words.now }
+    requires few { 2 * span_count words.now < 641 }
     ensures { AnswerIs (walk_answer text.now words.now o (length out.old)) out.old out.new result }
 {
     let mut starts = [false; Marks::TEXT + 1];
@@ -98,9 +98,9 @@ fn compile_few(text: &[u8], words: &[u32], o: Options, out: &mut [u8]) -> Answer
 
 // The same, with a short text as well: to fill long arrays would take a tenth of the whole time.
 fn compile_small(text: &[u8], words: &[u32], o: Options, out: &mut [u8]) -> Answer
-    requires fact_1 { Good text.now words.now }
-    requires fact_2 { 2 * span_count words.now < 641 }
-    requires fact_3 { length text.now ≤ 2048 }
+    requires good { Good text.now words.now }
+    requires few { 2 * span_count words.now < 641 }
+    requires short { length text.now ≤ 2048 }
     ensures { AnswerIs (walk_answer text.now words.now o (length out.old)) out.old out.new result }
 {
     let mut starts = [false; Marks::SHORT + 1];

@@ -29,9 +29,9 @@ pub(crate) fn walk_small(
     o: Options,
     out: &mut [u8],
 ) -> Answer
-    requires fact_1 { Good text.now words.now }
-    requires fact_2 { LinesAre text.now starts.now ends.now }
-    requires fact_3 { 2 * span_count words.now < 641 }
+    requires good { Good text.now words.now }
+    requires lines { LinesAre text.now starts.now ends.now }
+    requires few { 2 * span_count words.now < 641 }
     ensures { BufferedIs (walk_listing text.now words.now o) out.old out.new result }
 {
     let mut elements = [Element::EMPTY; Element::SMALL];

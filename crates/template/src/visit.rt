@@ -177,8 +177,8 @@ fn stage_after_gap(g: Stage, gap: bool) -> Stage
 }
 
 fn skipped(words: &[u32], v: View, s: Span, gap: bool, here: Here) -> Visit
-    requires fact_1 { kind_of s.tag ≡ plain skipped }
-    requires fact_2 { s.number < span_count words.now }
+    requires kind { kind_of s.tag ≡ plain skipped }
+    requires counted { s.number < span_count words.now }
     ensures { (text : Bytes) (o : Options) → KindIs text words.now o v s gap here result }
 {
     let m = v.marks;
@@ -202,8 +202,8 @@ fn skipped(words: &[u32], v: View, s: Span, gap: bool, here: Here) -> Visit
 
 // A template span gives the body that is waited for; it does not become the previous one.
 fn template(v: View, s: Span) -> Visit
-    requires fact_1 { s.tag ≡ 1 }
-    requires fact_2 { s.number < max_spans }
+    requires tag_is { s.tag ≡ 1 }
+    requires counted { s.number < max_spans }
     ensures { (text : Bytes) (words : List ℕ) (o : Options) (gap : Bool) (here : Here) → KindIs text words o v s gap here result }
 {
     let m = v.marks;
@@ -277,8 +277,8 @@ fn text_step(v: View, s: Span, start: usize, here: Here, stage: Stage, line: boo
 
 // The text of tag 2 begins at the previous end.
 fn raw_string(text: &[u8], words: &[u32], v: View, s: Span, here: Here) -> Visit
-    requires fact_1 { s.tag ≡ 2 }
-    requires fact_2 { s.number < max_spans }
+    requires tag_is { s.tag ≡ 2 }
+    requires counted { s.number < max_spans }
     ensures { (o : Options) (gap : Bool) → KindIs text.now words.now o v s gap here result }
 {
     let m = v.marks;
@@ -290,8 +290,8 @@ fn raw_string(text: &[u8], words: &[u32], v: View, s: Span, here: Here) -> Visit
 
 // That of tag 3 is its own span; a raw body takes nothing more.
 fn raw_block_text(text: &[u8], words: &[u32], v: View, s: Span, here: Here) -> Visit
-    requires fact_1 { s.tag ≡ 3 }
-    requires fact_2 { s.number < max_spans }
+    requires tag_is { s.tag ≡ 3 }
+    requires counted { s.number < max_spans }
     ensures { (o : Options) (gap : Bool) → KindIs text.now words.now o v s gap here result }
 {
     let m = v.marks;
@@ -303,8 +303,8 @@ fn raw_block_text(text: &[u8], words: &[u32], v: View, s: Span, here: Here) -> V
 
 // An empty line starts after the tag, or nothing at all follows and it is no partial.
 fn with_trailing_newline(text: &[u8], starts: &[bool], end: usize, is_partial: bool) -> bool
-    requires fact_1 { StartsAre text.now starts.now }
-    requires fact_2 { end ≤ length text.now }
+    requires line_starts { StartsAre text.now starts.now }
+    requires inside { end ≤ length text.now }
     ensures { result ≡ (starts_with_empty_line (drop end text.now) || (is_empty (drop end text.now) && not is_partial)) }
 {
     if starts[end] {
@@ -324,8 +324,8 @@ fn process_standalone_statement(
     s: Span,
     is_partial: bool,
 ) -> bool
-    requires fact_1 { LinesAre text.now starts.now ends.now }
-    requires fact_2 { SpanFits text.now s }
+    requires lines { LinesAre text.now starts.now ends.now }
+    requires fits { SpanFits text.now s }
     ensures { result ≡ standalone text.now is_partial s }
 {
     if !with_trailing_newline(text, starts, s.end, is_partial) {
@@ -372,11 +372,11 @@ fn comment(
     gap: bool,
     here: Here,
 ) -> Visit
-    requires fact_1 { 19 ≤ s.tag }
-    requires fact_2 { s.tag ≤ 20 }
-    requires fact_3 { s.number < max_spans }
-    requires fact_4 { LinesAre text.now starts.now ends.now }
-    requires fact_5 { SpanFits text.now s }
+    requires first_tag { 19 ≤ s.tag }
+    requires last_tag { s.tag ≤ 20 }
+    requires counted { s.number < max_spans }
+    requires lines { LinesAre text.now starts.now ends.now }
+    requires fits { SpanFits text.now s }
     ensures { KindIs text.now words.now o v s gap here result }
 {
     let m = v.marks;
@@ -444,8 +444,8 @@ fn element_of(s: Span, x: TagExpression, mark: bool, indent: bool) -> TemplateEl
 
 // Whose body a block start opens.
 fn opened_of(tag: u32) -> Opened
-    requires fact_1 { 5 ≤ tag }
-    requires fact_2 { tag ≤ 8 }
+    requires first_tag { 5 ≤ tag }
+    requires last_tag { tag ≤ 8 }
     ensures { BeginIs tag result }
 {
     match tag {
@@ -458,8 +458,8 @@ fn opened_of(tag: u32) -> Opened
 
 // What a tag does with its element after its gap and trims.
 fn act_of(tag: u32, e: Element) -> Act
-    requires fact_1 { 5 ≤ tag }
-    requires fact_2 { tag ≤ 18 }
+    requires first_tag { 5 ≤ tag }
+    requires last_tag { tag ≤ 18 }
     ensures { ActIs tag e result }
 {
     match tag {
@@ -524,10 +524,10 @@ fn step_of(
     gap: bool,
     here: Here,
 ) -> Visit
-    requires fact_1 { 5 ≤ s.tag }
-    requires fact_2 { s.tag ≤ 18 }
-    requires fact_3 { LinesAre text.now starts.now ends.now }
-    requires fact_4 { SpanFits text.now s }
+    requires first_tag { 5 ≤ s.tag }
+    requires last_tag { s.tag ≤ 18 }
+    requires lines { LinesAre text.now starts.now ends.now }
+    requires fits { SpanFits text.now s }
     ensures { TagStepIs text.now words.now o v s x gap here result }
 {
     let m = v.marks;
@@ -584,11 +584,11 @@ fn tagged(
     gap: bool,
     here: Here,
 ) -> Visit
-    requires fact_1 { 5 ≤ s.tag }
-    requires fact_2 { s.tag ≤ 18 }
-    requires fact_3 { s.number < span_count words.now }
-    requires fact_4 { LinesAre text.now starts.now ends.now }
-    requires fact_5 { SpanFits text.now s }
+    requires first_tag { 5 ≤ s.tag }
+    requires last_tag { s.tag ≤ 18 }
+    requires counted { s.number < span_count words.now }
+    requires lines { LinesAre text.now starts.now ends.now }
+    requires fits { SpanFits text.now s }
     ensures { KindIs text.now words.now o v s gap here result }
 {
     let r = read_tag(text, words, s);
@@ -619,11 +619,11 @@ fn visit_kind(
     gap: bool,
     here: Here,
 ) -> Visit
-    requires fact_1 { s.number < span_count words.now }
-    requires fact_2 { span_count words.now ≤ max_spans }
-    requires fact_3 { (s.tag ≡ 4 → ⊥) }
-    requires fact_4 { LinesAre text.now starts.now ends.now }
-    requires fact_5 { SpanFits text.now s }
+    requires counted { s.number < span_count words.now }
+    requires count_fits { span_count words.now ≤ max_spans }
+    requires no_escape { (s.tag ≡ 4 → ⊥) }
+    requires lines { LinesAre text.now starts.now ends.now }
+    requires fits { SpanFits text.now s }
     ensures { KindIs text.now words.now o v s gap here result }
 {
     let tag = s.tag;
@@ -647,8 +647,8 @@ pub(crate) fn visit_span(
     v: View,
     at: usize,
 ) -> Visit
-    requires fact_1 { Good text.now words.now }
-    requires fact_2 { LinesAre text.now starts.now ends.now }
+    requires good { Good text.now words.now }
+    requires lines { LinesAre text.now starts.now ends.now }
     ensures { VisitIs text.now words.now o v at result }
 {
     let n = next_span(words, at);

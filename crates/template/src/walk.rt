@@ -31,8 +31,8 @@ pub(crate) fn look(
     at: usize,
     closing: bool,
 ) -> Visit
-    requires fact_1 { Good text.now words.now }
-    requires fact_2 { LinesAre text.now starts.now ends.now }
+    requires good { Good text.now words.now }
+    requires lines { LinesAre text.now starts.now ends.now }
     ensures { LookIs text.now words.now o v at closing result }
 {
     if closing {
@@ -95,8 +95,8 @@ pub(crate) fn walk(
     o: Options,
     out: &mut [u8],
 ) -> Answer
-    requires fact_1 { Good text.now words.now }
-    requires fact_2 { LinesAre text.now starts.now ends.now }
+    requires good { Good text.now words.now }
+    requires lines { LinesAre text.now starts.now ends.now }
     ensures { BufferedIs (walk_listing text.now words.now o) out.old out.new result }
 {
     let mut elements = [Element::EMPTY; Element::LIMIT];

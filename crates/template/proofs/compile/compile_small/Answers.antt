@@ -1,0 +1,16 @@
+-- `template::compile::compile_small` meets its contract: as `compile_large`. Assumes nothing.
+use native.Mathlib.Omega.{arith}
+use Rattle.template.proofs.Buffers as buffers
+use Rattle.template.proofs.compile.compile_small.Goals as goal
+
+pub returns-then-out-n : goal.returns-then-out-n
+returns-then-out-n c = buffers.too_long c.args.text.now c.args.words.now c.args.o c.walk_small-a.ensures c.in-Listed.is c.if-out-n.true
+
+pub returns-then-n-gt-SMALL : goal.returns-then-n-gt-SMALL
+returns-then-n-gt-SMALL c = buffers.made_again c.args.text.now c.args.words.now c.args.o c.walk_small-a.ensures c.in-Listed.is c.if-out-n.false c.walk_small.ensures
+
+pub returns-in-Refused : goal.returns-in-Refused
+returns-in-Refused c = buffers.turned_away c.args.text.now c.args.words.now c.args.o c.walk_small-a.ensures c.args.out.now c.in-Refused.is
+
+pub returns-else-n-gt-SMALL : goal.returns-else-n-gt-SMALL
+returns-else-n-gt-SMALL c = buffers.handed_over c.args.text.now c.args.words.now c.args.o c.walk_small-a.ensures c.in-Listed.is c.if-out-n.false (omega (arith, c.if-n-gt-SMALL.false)) c.copy_front.ensures

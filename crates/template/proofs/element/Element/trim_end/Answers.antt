@@ -1,0 +1,26 @@
+-- By cases of the element: only a text changes. Assumes nothing.
+use mathlib.Core.Path.{◌≡◌, refl, ap, sym}
+use Rattle.template.specs.declared.element.Back.{Back}
+use Rattle.template.specs.Links.{set_element, trimmed}
+use Rattle.template.specs.declared.element.TemplateElement.TheVariants as E
+use Rattle.template.specs.declared.element.TemplateElement.{TemplateElement}
+use Rattle.template.specs.declared.element.RawString.{RawString}
+use Rattle.template.proofs.element.Element.trim_end.Goals as goal
+
+not-text : (x : TemplateElement) (b : Back) → ((r : RawString) → x ≡ E.RawString r → ⊥) → trimmed x b ≡ x
+not-text E.Empty b h = refl
+not-text (E.RawString r) b h = absurd (h r refl)
+not-text (E.Comment c) b h = refl
+not-text (E.Expression x) b h = refl
+not-text (E.HtmlExpression x) b h = refl
+not-text (E.HelperBlock x) b h = refl
+not-text (E.DecoratorExpression d) b h = refl
+not-text (E.PartialExpression d) b h = refl
+not-text (E.DecoratorBlock d) b h = refl
+not-text (E.PartialBlock d) b h = refl
+
+pub returns-in-RawString : goal.returns-in-RawString
+returns-in-RawString c = ap (set_element c.args.self) (rw (c.more_of-joined.ensures, c.in-RawString.is))
+
+pub returns : goal.returns
+returns c = ap (set_element c.args.self) (sym (not-text c.args.self.element c.args.back c.in_default.not-RawString))

@@ -1,0 +1,27 @@
+-- The cells from the offset on tell of starts, by the laws of LineLaws. Assumes nothing.
+use native.Mathlib.Omega.{arith}
+use mathlib.Core.Path.{◌∙◌}
+use mathlib.Core.Bool.{false}
+use lib.ListN.{length, length-set}
+use Rattle.template.proofs.LineLaws as laws
+use Rattle.template.proofs.lines.find_line_starts.Goals as goal
+
+pub loop-i-init : goal.loop-i-init
+loop-i-init c =
+    let a = c.args in
+    laws.starting_begins a.text.now a.starts.now c.requires
+
+pub loop-i-preserved : goal.loop-i-preserved
+loop-i-preserved c =
+    let a = c.args in
+    laws.starting_on a.text.now c.loop-i.invariant c.loop-i-test.true c.line_across-line.ensures
+
+pub shape_of-starts : goal.shape_of-starts
+shape_of-starts c =
+    let a = c.args in
+    c.loop-i.invariant.same ∙ length-set a.starts.now (length a.text.now) false
+
+pub returns : goal.returns
+returns c =
+    let a = c.args in
+    laws.starting_ends a.text.now c.loop-i.invariant (omega arith)

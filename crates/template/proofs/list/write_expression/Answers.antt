@@ -1,0 +1,20 @@
+-- `template::list::write_expression` meets its contract: the pieces of the form, one after the other. Assumes nothing.
+use native.Mathlib.Omega.{arith}
+use mathlib.Core.Path.{sym, ap}
+use Rattle.listing.proofs.PathWrites as paths
+use Rattle.listing.specs.Children.{helper_children}
+use Rattle.listing.specs.Form.{write_forms}
+use Rattle.template.proofs.ElementWrites as elements
+use Rattle.template.proofs.list.write_expression.Goals as goal
+
+pub returns : goal.returns
+returns c =
+    let args = c.args in
+    let good = c.well_formed in
+    let put-bytes = c.put_bytes-o in
+    let write-place = c.write_place-p in
+    let put-bytes2 = c.put_bytes-q in
+    let link-of = c.link_of in
+    let write-helper = c.write_helper-s in
+    let put-bytes3 = c.put_bytes in
+    let w = ap (λ z. write_forms (helper_children args.text.now args.words.now z)) (sym link-of.ensures) in paths.five (omega (arith, good.0.0)) put-bytes.ensures write-place.ensures put-bytes2.ensures (elements.bytes_are w write-helper.ensures) put-bytes3.ensures

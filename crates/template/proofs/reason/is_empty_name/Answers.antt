@@ -1,0 +1,8 @@
+-- By cases on the name. Assumes nothing.
+use Rattle.template.proofs.ReasonLaws as laws
+use Rattle.template.proofs.reason.is_empty_name.Goals as goal
+
+pub returns-in-Name : goal.returns-in-Name
+returns-in-Name c =
+    let args = c.args in
+    laws.empty_name args.text.now c.in-Name.is c.part.ensures

@@ -1,0 +1,19 @@
+-- As that of `walk`, over the smaller store: the laws are for stores of any size that is enough for the spans. Assumes nothing.
+use Prim.Native.Nat.{◌+◌, ◌-◌, ◌*◌}
+use Rattle.json_path.specs.Span.{span_count}
+use Rattle.template.proofs.Loop.{Held}
+use Rattle.template.proofs.Lister as lister
+use Rattle.template.proofs.Pass as pass
+use Rattle.template.proofs.small.walk_small.Given as goal
+
+abbrev pub invariant-loop-r : goal.invariant-loop-r
+invariant-loop-r l = Held l.text l.words l.o 641 l.elements l.levels l.top l.marks l.here l.depth l.len l.count l.closing l.at
+
+abbrev pub decreases-loop-r : goal.decreases-loop-r
+decreases-loop-r l = 2 * (span_count l.words - l.at) + l.count
+
+abbrev pub invariant-loop-link : goal.invariant-loop-link
+invariant-loop-link l = pass.Pass l.text l.words l.elements l.initial.link 641 l.initial.out l.initial.p l.out l.waiting l.p l.link l.waits
+
+abbrev pub decreases-loop-link : goal.decreases-loop-link
+decreases-loop-link l = lister.left_size l.text l.words l.elements l.waiting l.link l.waits

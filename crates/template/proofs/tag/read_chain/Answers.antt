@@ -1,0 +1,25 @@
+-- By what the readers of the tilde, the name and the expression answer in turn. Assumes nothing.
+use Rattle.expression.proofs.Cases as cases
+use Rattle.template.proofs.TagLaws as laws
+use Rattle.template.proofs.tag.read_chain.Goals as goal
+
+pub returns-in_default : goal.returns-in_default
+returns-in_default c =
+    let a = c.args in
+    laws.chain_ended a.text.now a.words.now a.s (cases.tilde_ended c.in_default.is c.parse_tilde-t.ensures)
+
+pub returns-in-Done-p : goal.returns-in-Done-p
+returns-in-Done-p c =
+    let a = c.args in
+    let parse-tilde = c.parse_tilde-t in
+    let parse-name = c.parse_name-p in
+    laws.chain_own a.text.now a.words.now a.s (cases.tilde_done c.in-Done.is parse-tilde.ensures)
+    (cases.param_done c.in-Done-p.is parse-name.ensures) c.read_own.result c.read_own.ensures
+
+pub returns-in-Failed : goal.returns-in-Failed
+returns-in-Failed c =
+    let a = c.args in
+    let parse-tilde = c.parse_tilde-t in
+    let parse-name = c.parse_name-p in
+    laws.chain_no_name a.text.now a.words.now a.s (cases.tilde_done c.in-Done.is parse-tilde.ensures)
+    (cases.param_failed c.in-Failed.is parse-name.ensures)

@@ -1,0 +1,11 @@
+-- Tag 10, and the others. Assumes nothing.
+use Rattle.template.proofs.TagLaws as laws
+use Rattle.template.proofs.tag.read_tag.Goals as goal
+
+pub returns-then-s-eq10 : goal.returns-then-s-eq10
+returns-then-s-eq10 c = c.read_chain.ensures c.if-s-eq10.true
+
+pub returns : goal.returns
+returns c =
+    let a = c.args in
+    laws.tag_own a.text.now a.words.now a.s c.read_own.result c.if-s-eq10.false c.read_own.ensures

@@ -1,0 +1,21 @@
+-- 13, or the step of a raw body that VisitLaws has. Assumes nothing.
+use native.Mathlib.Omega.{arith}
+use mathlib.Core.Path.{refl, sym, ◌∙◌}
+use Rattle.template.proofs.VisitLaws as laws
+use Rattle.template.proofs.visit.raw_block_text.Goals as goal
+
+pub overflow_add-s : goal.overflow_add-s
+overflow_add-s c =
+    omega (arith, c.requires.counted)
+
+pub returns-then-bad_escapes : goal.returns-then-bad_escapes
+returns-then-bad_escapes c =
+    let a = c.args in
+    λ o gap. laws.raw_bad a.text.now a.words.now o a.v a.s a.here {gap = gap} a.s.start c.requires.tag_is refl
+    (sym c.bad_escapes.ensures ∙ c.if-bad_escapes.true) c.refused.ensures
+
+pub returns : goal.returns
+returns c =
+    let a = c.args in
+    λ o gap. laws.kind_as a.text.now a.words.now o a.v a.s a.here c.text_step.ensures
+    (laws.raw_step a.text.now a.words.now o a.v a.s a.here a.s.start {gap = gap} c.requires.tag_is refl (sym c.bad_escapes.ensures ∙ c.if-bad_escapes.false))

@@ -1,0 +1,17 @@
+-- The step of a skipped span is the one that VisitLaws has. Assumes nothing.
+use native.Mathlib.Omega.{arith}
+use Rattle.template.proofs.VisitLaws as laws
+use Rattle.template.proofs.visit.skipped.Goals as goal
+
+pub overflow_add-s : goal.overflow_add-s
+overflow_add-s c =
+    let good = c.well_formed in
+    omega (arith, c.requires.counted, good)
+
+pub returns : goal.returns
+returns c =
+    let a = c.args in
+    let stage-after-gap = c.stage_after_gap in
+    let gap_of = c.gap_of in
+    λ text o. laws.kind_as text a.words.now o a.v a.s a.here c.step_as.ensures
+    (laws.skipped_step text a.words.now o a.v a.s a.here stage-after-gap.result a.gap gap_of.ensures stage-after-gap.ensures c.but_not.ensures c.requires.kind)

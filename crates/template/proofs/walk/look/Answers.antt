@@ -1,0 +1,13 @@
+-- By the test of the mode. Assumes nothing.
+use mathlib.Core.Path.{refl}
+use Rattle.template.proofs.WalkEnds as ends
+use Rattle.template.proofs.walk.look.Goals as goal
+
+pub returns-then-closing : goal.returns-then-closing
+returns-then-closing c = ends.looks_still _ _ _ _ _ _ _ c.if-closing.true refl
+
+pub visit_span-requires : goal.visit_span-requires
+visit_span-requires c = c.requires
+
+pub returns : goal.returns
+returns c = ends.looks_on _ _ _ _ _ _ _ c.if-closing.false c.visit_span.ensures
