@@ -1,13 +1,12 @@
 -- The two numbers of an answer say what the answer says. Assumes nothing.
-use mathlib.Core.Path.{◌≡◌, refl, ap, ◌∙◌}
-use lib.ListN.{length}
+use mathlib.Core.Path.{◌≡◌, refl}
 use Rattle.support.specs.Bytes.{Bytes}
-use Rattle.template.specs.Result.{Result, accepted, refused}
-use Rattle.template.specs.Answers.{AnswerIs, AnswerMeans, Lists}
+use Rattle.template.specs.Result.{Result}
+use Rattle.template.specs.Answers.{AnswerIs, AnswerMeans}
 use Rattle.template.specs.declared.compile.Answer.{Answer}
 use Rattle.template.specs.declared.compile.Answer.TheVariants.{Listed, Refused}
 use Rattle.ccompile.specs.declared.Told.{Told}
-use Rattle.ccompile.specs.Told.{ToldIs, told_of, number_of, value_of, output_of}
+use Rattle.ccompile.specs.Told.{ToldIs, told_of}
 
 means_told : (x : Result Bytes) (l m : Bytes) (a : Answer) → AnswerMeans x l m a → ToldIs x l m (told_of a)
 means_told x l m (Listed n) h = rw h.answer record { number = refl; value = h.count; output = h.output }
