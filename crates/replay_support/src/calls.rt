@@ -3,6 +3,7 @@
 use crate::fold::{fold_bytes, fold_flag, fold_place};
 use crate::out;
 use crate::text::{Alphabet, Buffer, empty, spell, strings, text};
+use std::io;
 use support::bytes::part;
 use support::position::{Place, line_col};
 use support::str::{
@@ -17,38 +18,38 @@ use support::white_space::{trim_end, trim_start};
 // `trim_start_matches` and `trim_end_matches` in turn, with one pattern after the other.
 const CALLS: u64 = 24;
 
-fn name(call: u64) {
+fn name(rt: &impl Print, call: u64) -> io::Result<()> {
     match call {
-        0 => out::word(b"strip_first_newline"),
-        1 => out::word(b"trim_start_blanks"),
-        2 => out::word(b"trim_end_blanks"),
-        3 => out::word(b"find_trailing_whitespace_chars"),
-        4 => out::word(b"ends_with_empty_line"),
-        5 => out::word(b"starts_with_empty_line"),
-        6 => out::word(b"trim_start"),
-        7 => out::word(b"trim_end"),
-        8 => out::word(b"line_col"),
-        9 => out::word(b"line_col at the largest numbers"),
-        10 => out::word(b"hbs_comment_compact_text"),
-        11 => out::word(b"hbs_comment_text"),
-        _ => name_matches(call),
+        0 => out::word(rt, b"strip_first_newline"),
+        1 => out::word(rt, b"trim_start_blanks"),
+        2 => out::word(rt, b"trim_end_blanks"),
+        3 => out::word(rt, b"find_trailing_whitespace_chars"),
+        4 => out::word(rt, b"ends_with_empty_line"),
+        5 => out::word(rt, b"starts_with_empty_line"),
+        6 => out::word(rt, b"trim_start"),
+        7 => out::word(rt, b"trim_end"),
+        8 => out::word(rt, b"line_col"),
+        9 => out::word(rt, b"line_col at the largest numbers"),
+        10 => out::word(rt, b"hbs_comment_compact_text"),
+        11 => out::word(rt, b"hbs_comment_text"),
+        _ => name_matches(rt, call),
     }
 }
 
-fn name_matches(call: u64) {
+fn name_matches(rt: &impl Print, call: u64) -> io::Result<()> {
     match call {
-        12 => out::word(b"trim_start_matches of nothing"),
-        13 => out::word(b"trim_end_matches of nothing"),
-        14 => out::word(b"trim_start_matches {"),
-        15 => out::word(b"trim_end_matches {"),
-        16 => out::word(b"trim_start_matches -"),
-        17 => out::word(b"trim_end_matches -"),
-        18 => out::word(b"trim_start_matches }}"),
-        19 => out::word(b"trim_end_matches }}"),
-        20 => out::word(b"trim_start_matches --"),
-        21 => out::word(b"trim_end_matches --"),
-        22 => out::word(b"trim_start_matches -}"),
-        _ => out::word(b"trim_end_matches -}"),
+        12 => out::word(rt, b"trim_start_matches of nothing"),
+        13 => out::word(rt, b"trim_end_matches of nothing"),
+        14 => out::word(rt, b"trim_start_matches {"),
+        15 => out::word(rt, b"trim_end_matches {"),
+        16 => out::word(rt, b"trim_start_matches -"),
+        17 => out::word(rt, b"trim_end_matches -"),
+        18 => out::word(rt, b"trim_start_matches }}"),
+        19 => out::word(rt, b"trim_end_matches }}"),
+        20 => out::word(rt, b"trim_start_matches --"),
+        21 => out::word(rt, b"trim_end_matches --"),
+        22 => out::word(rt, b"trim_start_matches -}"),
+        _ => out::word(rt, b"trim_end_matches -}"),
     }
 }
 
@@ -77,9 +78,7 @@ fn fold_cut(h: u64, from: Place, s: &[u8], cut: usize) -> u64 {
 // Cut at each offset from the end down.
 fn fold_cuts(h: u64, from: Place, s: &[u8]) -> u64 {
     let mut g = h;
-    let mut left = s.len() + 1;
-    while 0 < left {
-        left -= 1;
+    for left in (0..s.len() + 1).rev() {
         g = fold_cut(g, from, s, left);
     }
     g
@@ -147,37 +146,32 @@ fn run_strings(call: u64, symbols: u64) -> u64 {
     let count = strings(alphabet(call), symbols);
     let mut buf = empty();
     let mut h = 0;
-    let mut number = 0;
-    while number < count {
+    for number in 0..count {
         h = run_string(call, h, &mut buf, symbols, number);
-        number += 1;
     }
     h
 }
 
-fn report_strings(call: u64, symbols: u64) {
-    name(call);
-    out::space();
-    out::number(symbols);
-    out::space();
-    out::hash(run_strings(call, symbols));
-    out::end_line();
+fn report_strings(rt: &impl Print, call: u64, symbols: u64) -> io::Result<()> {
+    name(rt, call)?;
+    out::space(rt)?;
+    out::number(rt, symbols)?;
+    out::space(rt)?;
+    out::hash(rt, run_strings(call, symbols))?;
+    out::end_line(rt)
 }
 
-fn report_call(call: u64) {
-    let end = symbols_end(call);
-    let mut symbols = 0;
-    while symbols < end {
-        report_strings(call, symbols);
-        symbols += 1;
+fn report_call(rt: &impl Print, call: u64) -> io::Result<()> {
+    for symbols in 0..symbols_end(call) {
+        report_strings(rt, call, symbols)?;
     }
+    Ok(())
 }
 
-pub fn report() {
-    out::word(b"calls: symbols, answers\n");
-    let mut call = 0;
-    while call < CALLS {
-        report_call(call);
-        call += 1;
+pub fn report(rt: &impl Print) -> io::Result<()> {
+    out::word(rt, b"calls: symbols, answers\n")?;
+    for call in 0..CALLS {
+        report_call(rt, call)?;
     }
+    Ok(())
 }

@@ -2,6 +2,7 @@
 use crate::fold::{fold_bytes, fold_place, one_more};
 use crate::out;
 use crate::text::{Buffer, empty, put, put_code_point, text};
+use std::io;
 use support::position::{Place, line_col};
 use support::utf8::valid_up_to;
 use support::white_space::{trim_end, trim_start};
@@ -42,37 +43,35 @@ fn is_trimmed(buf: &mut Buffer, c: u64, back: bool) -> bool {
 }
 
 // Writes a code point that is trimmed on this side, and counts it.
-fn list_one(found: u64, buf: &mut Buffer, c: u64, back: bool) -> u64 {
+fn list_one(rt: &impl Print, found: u64, buf: &mut Buffer, c: u64, back: bool) -> io::Result<u64> {
     if !is_trimmed(buf, c, back) {
-        return found;
+        return Ok(found);
     }
-    out::space();
-    out::hex(c);
-    one_more(found)
+    out::space(rt)?;
+    out::hex(rt, c)?;
+    Ok(one_more(found))
 }
 
-fn list_end(found: u64, run: u64) {
-    out::word(b"\n");
-    out::number(found);
-    out::word(b" of ");
-    out::number(run);
-    out::word(b" scalar values\n");
+fn list_end(rt: &impl Print, found: u64, run: u64) -> io::Result<()> {
+    out::word(rt, b"\n")?;
+    out::number(rt, found)?;
+    out::word(rt, b" of ")?;
+    out::number(rt, run)?;
+    out::word(rt, b" scalar values\n")
 }
 
 // Writes the scalar values that are trimmed on this side, and how many they are.
-fn list(back: bool) {
+fn list(rt: &impl Print, back: bool) -> io::Result<()> {
     let mut buf = empty();
     let mut run = 0;
     let mut found = 0;
-    let mut c = 0;
-    while c < CODE_POINTS {
+    for c in 0..CODE_POINTS {
         if is_scalar(c) {
             run = one_more(run);
-            found = list_one(found, &mut buf, c, back);
+            found = list_one(rt, found, &mut buf, c, back)?;
         }
-        c += 1;
     }
-    list_end(found, run);
+    list_end(rt, found, run)
 }
 
 // What the strings with a scalar value on both sides gave: how many there are, how many are valid to
@@ -118,27 +117,25 @@ fn count_all() -> Tally {
         trims: 0,
         places: 0,
     };
-    let mut c = 0;
-    while c < CODE_POINTS {
+    for c in 0..CODE_POINTS {
         t = count_code_point(t, &mut buf, c);
-        c += 1;
     }
     t
 }
 
-pub fn report() {
-    out::word(b"white space at the front:");
-    list(false);
-    out::word(b"white space at the back:");
-    list(true);
+pub fn report(rt: &impl Print) -> io::Result<()> {
+    out::word(rt, b"white space at the front:")?;
+    list(rt, false)?;
+    out::word(rt, b"white space at the back:")?;
+    list(rt, true)?;
     let t = count_all();
-    out::word(b"on both sides of a letter: strings ");
-    out::number(t.strings);
-    out::word(b" valid ");
-    out::number(t.valid);
-    out::word(b" trims ");
-    out::hash(t.trims);
-    out::word(b" places ");
-    out::hash(t.places);
-    out::end_line();
+    out::word(rt, b"on both sides of a letter: strings ")?;
+    out::number(rt, t.strings)?;
+    out::word(rt, b" valid ")?;
+    out::number(rt, t.valid)?;
+    out::word(rt, b" trims ")?;
+    out::hash(rt, t.trims)?;
+    out::word(rt, b" places ")?;
+    out::hash(rt, t.places)?;
+    out::end_line(rt)
 }

@@ -31,10 +31,8 @@ pub fn fold_place(h: u64, p: Place) -> u64 {
 // The length, and then each byte.
 pub fn fold_bytes(h: u64, s: &[u8]) -> u64 {
     let mut g = fold_size(h, s.len());
-    let mut i = 0;
-    while i < s.len() {
-        g = fold_byte(g, s[i]);
-        i += 1;
+    for b in s {
+        g = fold_byte(g, *b);
     }
     g
 }

@@ -10,9 +10,11 @@ mod pairs;
 mod records;
 mod text;
 
-fn main() {
-    code_points::report();
-    records::report();
-    calls::report();
-    pairs::report();
+use std::io;
+
+fn main(rt: HostRuntime) -> io::Result<()> {
+    code_points::report(&rt)?;
+    records::report(&rt, &mut rt.stdin())?;
+    calls::report(&rt)?;
+    pairs::report(&rt)
 }

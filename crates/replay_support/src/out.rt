@@ -1,27 +1,27 @@
 // What is written to standard output.
-use libc::STDOUT_FILENO;
+use std::io;
 
-pub fn word(s: &[u8]) {
-    io::write_all(STDOUT_FILENO, s);
+pub fn word(rt: &impl Print, s: &[u8]) -> io::Result<()> {
+    rt.write_all(s)
 }
 
-pub fn space() {
-    word(b" ");
+pub fn space(rt: &impl Print) -> io::Result<()> {
+    word(rt, b" ")
 }
 
-pub fn end_line() {
-    word(b"\n");
+pub fn end_line(rt: &impl Print) -> io::Result<()> {
+    word(rt, b"\n")
 }
 
-pub fn number(n: u64) {
-    io::print_decimal(STDOUT_FILENO, n);
+pub fn number(rt: &impl Print, n: u64) -> io::Result<()> {
+    rt.print(n)
 }
 
-pub fn hex(n: u64) {
-    io::print_hex(STDOUT_FILENO, n, 2);
+pub fn hex(rt: &impl Print, n: u64) -> io::Result<()> {
+    print!(rt; "{n:02x}")
 }
 
 // Eight digits hold every hash.
-pub fn hash(h: u64) {
-    io::print_hex(STDOUT_FILENO, h, 8);
+pub fn hash(rt: &impl Print, h: u64) -> io::Result<()> {
+    print!(rt; "{h:08x}")
 }

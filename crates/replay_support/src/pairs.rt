@@ -3,6 +3,7 @@
 use crate::fold::{fold_byte, fold_bytes, fold_flag};
 use crate::out;
 use crate::text::{Alphabet, Buffer, empty, spell, text};
+use std::io;
 use support::bytes::{byte_at, part, precedes, same_bytes};
 use support::str::{newline_matcher, whitespace_matcher};
 use support::utf8::is_tail;
@@ -32,26 +33,23 @@ fn fold_pair(h: u64, i: u64, j: u64) -> u64 {
 }
 
 // One string with each.
-fn report_pairs(i: u64) {
+fn report_pairs(rt: &impl Print, i: u64) -> io::Result<()> {
     let mut h = 0;
-    let mut j = 0;
-    while j < SHORT {
+    for j in 0..SHORT {
         h = fold_pair(h, i, j);
-        j += 1;
     }
-    out::number(i);
-    out::space();
-    out::hash(h);
-    out::end_line();
+    out::number(rt, i)?;
+    out::space(rt)?;
+    out::hash(rt, h)?;
+    out::end_line(rt)
 }
 
-fn report_order() {
-    out::word(b"pairs: byte order and equality\n");
-    let mut i = 0;
-    while i < SHORT {
-        report_pairs(i);
-        i += 1;
+fn report_order(rt: &impl Print) -> io::Result<()> {
+    out::word(rt, b"pairs: byte order and equality\n")?;
+    for i in 0..SHORT {
+        report_pairs(rt, i)?;
     }
+    Ok(())
 }
 
 // How many offsets are run: to two past the end of the string, and the largest number.
@@ -68,24 +66,21 @@ fn fold_part(h: u64, a: usize, e: usize) -> u64 {
 }
 
 // The parts from one offset on.
-fn report_parts(k: usize) {
+fn report_parts(rt: &impl Print, k: usize) -> io::Result<()> {
     let mut h = 0;
-    let mut i = 0;
-    while i < OFFSETS {
+    for i in 0..OFFSETS {
         h = fold_part(h, offset(k), offset(i));
-        i += 1;
     }
-    out::hash(h);
-    out::end_line();
+    out::hash(rt, h)?;
+    out::end_line(rt)
 }
 
-fn report_all_parts() {
-    out::word(b"parts: from each offset\n");
-    let mut k = 0;
-    while k < OFFSETS {
-        report_parts(k);
-        k += 1;
+fn report_all_parts(rt: &impl Print) -> io::Result<()> {
+    out::word(rt, b"parts: from each offset\n")?;
+    for k in 0..OFFSETS {
+        report_parts(rt, k)?;
     }
+    Ok(())
 }
 
 fn test(which: u64, b: u8) -> bool {
@@ -97,25 +92,23 @@ fn test(which: u64, b: u8) -> bool {
 }
 
 // The bytes that pass a test.
-fn report_bytes(which: u64) {
-    let mut b = 0;
-    while b < 256 {
+fn report_bytes(rt: &impl Print, which: u64) -> io::Result<()> {
+    for b in 0..256u64 {
         if test(which, b as u8) {
-            out::space();
-            out::hex(b);
+            out::space(rt)?;
+            out::hex(rt, b)?;
         }
-        b += 1;
     }
-    out::end_line();
+    out::end_line(rt)
 }
 
-pub fn report() {
-    report_order();
-    report_all_parts();
-    out::word(b"whitespace_matcher:");
-    report_bytes(0);
-    out::word(b"newline_matcher:");
-    report_bytes(1);
-    out::word(b"is_tail:");
-    report_bytes(2);
+pub fn report(rt: &impl Print) -> io::Result<()> {
+    report_order(rt)?;
+    report_all_parts(rt)?;
+    out::word(rt, b"whitespace_matcher:")?;
+    report_bytes(rt, 0)?;
+    out::word(rt, b"newline_matcher:")?;
+    report_bytes(rt, 1)?;
+    out::word(rt, b"is_tail:")?;
+    report_bytes(rt, 2)
 }

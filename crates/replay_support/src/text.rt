@@ -20,10 +20,8 @@ pub fn put(buf: &mut Buffer, at: usize, b: u8) -> usize {
 
 fn put_all(buf: &mut Buffer, at: usize, s: &[u8]) -> usize {
     let mut n = at;
-    let mut i = 0;
-    while i < s.len() {
-        n = put(buf, n, s[i]);
-        i += 1;
+    for b in s {
+        n = put(buf, n, *b);
     }
     n
 }
@@ -114,11 +112,9 @@ pub fn spell(a: Alphabet, buf: &mut Buffer, symbols: u64, number: u64) -> usize 
     let base = size(a);
     let mut rest = number;
     let mut at = 0;
-    let mut i = 0;
-    while i < symbols {
+    for _ in 0..symbols {
         at = put_symbol(a, buf, at, rest % base);
         rest = rest / base;
-        i += 1;
     }
     at
 }
