@@ -3,106 +3,115 @@
 // those of tools/paths.
 #![tactic(auto)]
 
+ghost use Rattle.std.specs.Prelude.{◌≤◌, length, IfOk};
+
 use card::stored::{line_at, read_words};
 use json_path::path::{Path, PathSeg, Relative, SegmentRead, next_segment, parse_json_path};
 use json_path::span::{Escape, Next, Span, escape_at, next_span, skip_to, span_at, span_count};
-use libc::{STDIN_FILENO, STDOUT_FILENO};
+use std::io::{self, Read};
 use support::bytes::part;
 
-fn show(bytes: &[u8]) {
-    io::write_all(STDOUT_FILENO, bytes);
+// How many bytes of input are read.
+const LIMIT: usize = 65536;
+
+fn show(rt: &impl Print, bytes: &[u8]) -> io::Result<()> {
+    rt.write_all(bytes)
 }
 
-fn show_number(n: usize) {
-    io::print_decimal(STDOUT_FILENO, n as u64);
+fn show_number(rt: &impl Print, n: usize) -> io::Result<()> {
+    rt.print(n)
 }
 
 // The number of the next walked span, or `end`.
-fn show_next(words: &[u32], k: usize) {
+fn show_next(rt: &impl Print, words: &[u32], k: usize) -> io::Result<()> {
     let n = next_span(words, k);
     let Next::Span(s) = n else {
-        show(b"end");
-        return;
+        return show(rt, b"end");
     };
-    show_number(s.number);
+    show_number(rt, s.number)
 }
 
-fn show_escape(words: &[u32], k: usize) {
+fn show_escape(rt: &impl Print, words: &[u32], k: usize) -> io::Result<()> {
     let e = escape_at(words, k);
     let Escape::Found(s) = e else {
-        show(b"none");
-        return;
+        return show(rt, b"none");
     };
-    show_number(s.number);
+    show_number(rt, s.number)
 }
 
-fn show_segment(text: &[u8], segment: PathSeg) {
+fn show_segment(rt: &impl Print, text: &[u8], segment: PathSeg) -> io::Result<()> {
     match segment {
         PathSeg::Named(name) => {
-            show(b" seg ");
-            show(part(text, name.start, name.end));
+            show(rt, b" seg ")?;
+            show(rt, part(text, name.start, name.end))
         }
-        PathSeg::Root => show(b" root"),
-        PathSeg::Here => show(b" here"),
-        PathSeg::Up => show(b" up"),
+        PathSeg::Root => show(rt, b" root"),
+        PathSeg::Here => show(rt, b" here"),
+        PathSeg::Up => show(rt, b" up"),
     }
 }
 
-fn show_segments(text: &[u8], words: &[u32], path: Relative) {
+fn show_segments(rt: &impl Print, text: &[u8], words: &[u32], path: Relative) -> io::Result<()> {
     let mut rest = path;
     loop {
         let n = next_segment(text, words, rest);
         let SegmentRead::Segment(segment, after) = n else {
-            return;
+            return Ok(());
         };
-        show_segment(text, segment);
+        show_segment(rt, text, segment)?;
         rest = after;
     }
 }
 
 // The path of a reference, and the number of the next walked span after it.
-fn show_path(text: &[u8], words: &[u32], reference: Span, at: usize) {
+fn show_path(
+    rt: &impl Print,
+    text: &[u8],
+    words: &[u32],
+    reference: Span,
+    at: usize,
+) -> io::Result<()> {
     let read = parse_json_path(text, words, reference, at);
     let path = read.path;
     match path {
         Path::Relative(p) => {
-            show(b" path");
-            show_segments(text, words, p);
+            show(rt, b" path")?;
+            show_segments(rt, text, words, p)?;
         }
         Path::Local(p) => {
-            show(b" local ");
-            show_number(p.level);
-            show(b" ");
+            show(rt, b" local ")?;
+            show_number(rt, p.level)?;
+            show(rt, b" ")?;
             let name = p.name;
-            show(part(text, name.start, name.end));
+            show(rt, part(text, name.start, name.end))?;
         }
     }
-    show(b" raw ");
-    show(path.raw(text));
-    show(b" then ");
-    show_next(words, read.next);
+    show(rt, b" raw ")?;
+    show(rt, path.raw(text))?;
+    show(rt, b" then ")?;
+    show_next(rt, words, read.next)
 }
 
 // What is answered at number `k`: the span there, the next walked one, the escape, what follows
 // the spans up to the span's end, and the path with this span as its reference.
-fn show_at(text: &[u8], words: &[u32], k: usize) {
+fn show_at(rt: &impl Print, text: &[u8], words: &[u32], k: usize) -> io::Result<()> {
     let s = span_at(words, k);
-    show(b"span ");
-    show_number(s.number);
-    show(b" tag ");
-    show_number(s.tag as usize);
-    show(b" ");
-    show_number(s.start);
-    show(b" ");
-    show_number(s.end);
-    show(b" next ");
-    show_next(words, k);
-    show(b" escape ");
-    show_escape(words, k);
-    show(b" skip ");
-    show_next(words, skip_to(words, s.end, k));
-    show_path(text, words, s, after(words, k));
-    show(b"\n");
+    show(rt, b"span ")?;
+    show_number(rt, s.number)?;
+    show(rt, b" tag ")?;
+    show_number(rt, s.tag as usize)?;
+    show(rt, b" ")?;
+    show_number(rt, s.start)?;
+    show(rt, b" ")?;
+    show_number(rt, s.end)?;
+    show(rt, b" next ")?;
+    show_next(rt, words, k)?;
+    show(rt, b" escape ")?;
+    show_escape(rt, words, k)?;
+    show(rt, b" skip ")?;
+    show_next(rt, words, skip_to(words, s.end, k))?;
+    show_path(rt, text, words, s, after(words, k))?;
+    show(rt, b"\n")
 }
 
 // The number after `k`, as far as there are spans.
@@ -111,36 +120,52 @@ fn after(words: &[u32], k: usize) -> usize {
 }
 
 // Every number up to two past the last span, and the largest of all.
-fn show_record(text: &[u8], words: &[u32]) {
+fn show_record(rt: &impl Print, text: &[u8], words: &[u32]) -> io::Result<()> {
     let n = span_count(words);
-    show(b"count ");
-    show_number(n);
-    show(b"\n");
+    show(rt, b"count ")?;
+    show_number(rt, n)?;
+    show(rt, b"\n")?;
     for k in 0..n + 2 {
-        show_at(text, words, k);
+        show_at(rt, text, words, k)?;
     }
-    show_at(text, words, usize::MAX);
+    show_at(rt, text, words, usize::MAX)
 }
 
-fn replay_record(text: &[u8], line: &[u8]) {
+fn replay_record(rt: &impl Print, text: &[u8], line: &[u8]) -> io::Result<()> {
     let mut words = [0u32; 3 * Span::LIMIT];
     let n = read_words(line, &mut words);
-    show_record(text, &words[..n]);
+    show_record(rt, text, &words[..n])
 }
 
-fn replay(input: &[u8]) {
+fn replay(rt: &impl Print, input: &[u8]) -> io::Result<()> {
     let mut at: usize = 0;
     while at < input.len() {
         let text = line_at(input, at);
         let second = at + text.len() + 1;
         let words = line_at(input, second);
-        replay_record(text, words);
+        replay_record(rt, text, words)?;
         at = second + words.len() + 1;
     }
+    Ok(())
 }
 
-fn main() {
-    let mut input = io::large_buffer();
-    let n = io::read_full(STDIN_FILENO, &mut input);
-    replay(&input[..n]);
+// Fills the buffer as far as there is input, and answers how many bytes there were.
+fn read_full(input: &mut impl Read, buf: &mut [u8]) -> io::Result<usize>
+    ensures { IfOk result (λ n. n ≤ length buf.new) }
+{
+    let mut done = 0;
+    for _ in 0..u64::MAX {
+        let n = input.read(&mut buf[done..])?;
+        if n == 0 {
+            break;
+        }
+        done += n;
+    }
+    Ok(done)
+}
+
+fn main(rt: HostRuntime) -> io::Result<()> {
+    let mut input = [0u8; LIMIT];
+    let n = read_full(&mut rt.stdin(), &mut input)?;
+    replay(&rt, &input[..n])
 }

@@ -3,11 +3,11 @@
 // verdict, `v`, `i` or `o`, and for `q` a space and the rewritten text.
 #![tactic(auto)]
 
-ghost use Rattle.std.specs.Prelude.{◌≡◌, ◌<◌};
+ghost use Rattle.std.specs.Prelude.{◌≡◌, ◌<◌, ◌≤◌, length, IfOk};
 
-use libc::{STDIN_FILENO, STDOUT_FILENO};
 use literal::check::{Verdict, check_literal, check_quoted};
 use literal::requote::{Place, Quoted, next_quoted};
+use std::io::{self, Read};
 
 fn letter(v: Verdict) -> u8 {
     match v {
@@ -23,56 +23,79 @@ fn wide(x: u8) -> usize
     x as usize
 }
 
-fn write_byte(b: u8) {
-    io::write_all(STDOUT_FILENO, &[b]);
+fn write_byte(rt: &impl Print, b: u8) -> io::Result<()> {
+    rt.write_all(&[b])
 }
 
-fn write_rewritten(inner: &[u8]) {
+fn write_rewritten(rt: &impl Print, inner: &[u8]) -> io::Result<()> {
     let mut place = Place::Opening;
     loop {
         let quoted = next_quoted(inner, place);
         let Quoted::Byte(b, behind) = quoted else {
-            return;
+            return Ok(());
         };
-        write_byte(b);
+        write_byte(rt, b)?;
         place = behind;
     }
 }
 
-fn answer(kind: u8, text: &[u8]) {
+fn answer(rt: &impl Print, kind: u8, text: &[u8]) -> io::Result<()> {
     if kind == b'q' {
-        write_byte(letter(check_quoted(text)));
-        write_byte(b' ');
-        write_rewritten(text);
+        write_byte(rt, letter(check_quoted(text)))?;
+        write_byte(rt, b' ')?;
+        write_rewritten(rt, text)?;
     } else {
-        write_byte(letter(check_literal(text)));
+        write_byte(rt, letter(check_literal(text)))?;
     }
-    write_byte(b'\n');
+    write_byte(rt, b'\n')
+}
+
+// Fills the buffer as far as there is input, and answers how many bytes there were.
+fn read_full(input: &mut impl Read, buf: &mut [u8]) -> io::Result<usize>
+    ensures { IfOk result (λ n. n ≤ length buf.new) }
+{
+    let mut done = 0;
+    for _ in 0..u64::MAX {
+        let n = input.read(&mut buf[done..])?;
+        if n == 0 {
+            break;
+        }
+        done += n;
+    }
+    Ok(done)
 }
 
 // The text of a record, which it reads into `text`.
-fn replay_text(kind: u8, text: &mut [u8]) {
-    io::read_full(STDIN_FILENO, text);
-    answer(kind, text);
+fn replay_text(
+    rt: &impl Print,
+    input: &mut impl Read,
+    kind: u8,
+    text: &mut [u8],
+) -> io::Result<()> {
+    read_full(input, text)?;
+    answer(rt, kind, text)
 }
 
 // One record, if one is left.
-fn replay_one() -> bool {
+fn replay_one(rt: &impl Print, input: &mut impl Read) -> io::Result<bool> {
     let mut head = [0u8; 2];
-    let got = io::read_full(STDIN_FILENO, &mut head);
+    let got = read_full(input, &mut head)?;
     if got < 2 {
-        return false;
+        return Ok(false);
     }
     let length = wide(head[1]);
     let mut text = [0u8; 256];
-    replay_text(head[0], &mut text[0..length]);
-    true
+    replay_text(rt, input, head[0], &mut text[0..length])?;
+    Ok(true)
 }
 
-// A proved loop has to end, and nothing says that the input does: it counts its turns down.
-fn main() {
-    let mut turns = u64::MAX;
-    while turns > 0 && replay_one() {
-        turns -= 1;
+// A proved loop has to end, and nothing says that the input does: so the turns are counted.
+fn main(rt: HostRuntime) -> io::Result<()> {
+    let mut input = rt.stdin();
+    for _ in 0..u64::MAX {
+        if !replay_one(&rt, &mut input)? {
+            break;
+        }
     }
+    Ok(())
 }
