@@ -3,6 +3,8 @@
 // tools/expressions.
 #![tactic(auto)]
 
+ghost use Rattle.std.specs.Prelude.{◌≤◌, length, IfOk};
+
 use card::stored::{line_at, read_words};
 use expression::again::{Bound, KeyStep, ParamStep, enter, next_key, next_param};
 use expression::parameter::{
@@ -15,266 +17,275 @@ use expression::parse::{
 };
 use json_path::path::{Name, Path};
 use json_path::span::{Next, Span, next_span, span_at, span_count};
-use libc::{STDIN_FILENO, STDOUT_FILENO};
+use std::io::{self, Read};
 use support::bytes::part;
 
-fn show(bytes: &[u8]) {
-    io::write_all(STDOUT_FILENO, bytes);
+// How many bytes of input are read.
+const LIMIT: usize = 65536;
+
+fn show(rt: &impl Print, bytes: &[u8]) -> io::Result<()> {
+    rt.write_all(bytes)
 }
 
-fn show_number(n: usize) {
-    io::print_decimal(STDOUT_FILENO, n as u64);
+fn show_number(rt: &impl Print, n: usize) -> io::Result<()> {
+    rt.print(n)
 }
 
-fn show_bit(b: bool) {
-    if b { show(b"1") } else { show(b"0") }
+fn show_bit(rt: &impl Print, b: bool) -> io::Result<()> {
+    if b { show(rt, b"1") } else { show(rt, b"0") }
 }
 
 // The number of the next walked span, or `end`.
-fn show_then(words: &[u32], k: usize) {
-    show(b" then ");
+fn show_then(rt: &impl Print, words: &[u32], k: usize) -> io::Result<()> {
+    show(rt, b" then ")?;
     let n = next_span(words, k);
     let Next::Span(s) = n else {
-        show(b"end");
-        return;
+        return show(rt, b"end");
     };
-    show_number(s.number);
+    show_number(rt, s.number)
 }
 
-fn show_fault(f: Fault) {
+fn show_fault(rt: &impl Print, f: Fault) -> io::Result<()> {
     match f {
-        Fault::Ended => show(b" ended"),
-        Fault::NotAllowed => show(b" not-allowed"),
-        Fault::InvalidLiteral => show(b" invalid"),
-        Fault::OverLimit => show(b" over"),
+        Fault::Ended => show(rt, b" ended"),
+        Fault::NotAllowed => show(rt, b" not-allowed"),
+        Fault::InvalidLiteral => show(rt, b" invalid"),
+        Fault::OverLimit => show(rt, b" over"),
     }
 }
 
-fn show_name(text: &[u8], name: Name) {
-    show(b" <");
-    show(part(text, name.start, name.end));
-    show(b">");
+fn show_name(rt: &impl Print, text: &[u8], name: Name) -> io::Result<()> {
+    show(rt, b" <")?;
+    show(rt, part(text, name.start, name.end))?;
+    show(rt, b">")
 }
 
 // The name that a parameter gives.
-fn show_as_name(text: &[u8], p: Parameter) {
+fn show_as_name(rt: &impl Print, text: &[u8], p: Parameter) -> io::Result<()> {
     let n = p.as_name();
     let AsName::Name(name) = n else {
-        show(b" nameless");
-        return;
+        return show(rt, b" nameless");
     };
-    show_name(text, name);
+    show_name(rt, text, name)
 }
 
-fn show_path(text: &[u8], path: Path) {
+fn show_path(rt: &impl Print, text: &[u8], path: Path) -> io::Result<()> {
     match path {
-        Path::Relative(_) => show(b" path <"),
+        Path::Relative(_) => show(rt, b" path <")?,
         Path::Local(p) => {
-            show(b" local ");
-            show_number(p.level);
-            show(b" <");
+            show(rt, b" local ")?;
+            show_number(rt, p.level)?;
+            show(rt, b" <")?;
         }
     }
-    show(path.raw(text));
-    show(b">");
+    show(rt, path.raw(text))?;
+    show(rt, b">")
 }
 
 // A subexpression is shown by its link: what it holds stands in the line of its tag.
-fn show_parameter(text: &[u8], p: Parameter) {
+fn show_parameter(rt: &impl Print, text: &[u8], p: Parameter) -> io::Result<()> {
     match p {
         Parameter::Name(name) => {
-            show(b" name");
-            show_name(text, name);
+            show(rt, b" name")?;
+            show_name(rt, text, name)
         }
-        Parameter::Path(path) => show_path(text, path),
+        Parameter::Path(path) => show_path(rt, text, path),
         Parameter::Literal(l) => {
-            show(b" literal ");
-            show_bit(l.quoted);
+            show(rt, b" literal ")?;
+            show_bit(rt, l.quoted)?;
             show_name(
+                rt,
                 text,
                 Name {
                     start: l.start,
                     end: l.end,
                 },
-            );
+            )
         }
         Parameter::Subexpression(s) => {
-            show(b" sub ");
-            show_number(s.limit);
-            show(b" ");
-            show_number(s.depth);
+            show(rt, b" sub ")?;
+            show_number(rt, s.limit)?;
+            show(rt, b" ")?;
+            show_number(rt, s.depth)
         }
     }
 }
 
-fn show_param_read(text: &[u8], words: &[u32], r: ParamRead) {
+fn show_param_read(rt: &impl Print, text: &[u8], words: &[u32], r: ParamRead) -> io::Result<()> {
     match r {
         ParamRead::Done(p, next) => {
-            show_parameter(text, p);
-            show_then(words, next);
+            show_parameter(rt, text, p)?;
+            show_then(rt, words, next)
         }
-        ParamRead::Failed(f) => show_fault(f),
+        ParamRead::Failed(f) => show_fault(rt, f),
     }
 }
 
-fn show_hash_read(text: &[u8], words: &[u32], r: HashRead) {
+fn show_hash_read(rt: &impl Print, text: &[u8], words: &[u32], r: HashRead) -> io::Result<()> {
     match r {
         HashRead::Done(h, next) => {
             let key = h.key;
             let value = h.value;
-            show_name(text, key);
-            show_parameter(text, value);
-            show_then(words, next);
+            show_name(rt, text, key)?;
+            show_parameter(rt, text, value)?;
+            show_then(rt, words, next)
         }
-        HashRead::Failed(f) => show_fault(f),
+        HashRead::Failed(f) => show_fault(rt, f),
     }
 }
 
-fn show_block_param(text: &[u8], block: BlockParam) {
+fn show_block_param(rt: &impl Print, text: &[u8], block: BlockParam) -> io::Result<()> {
     match block {
-        BlockParam::None => show(b" none"),
-        BlockParam::Single(a) => show_name(text, a),
+        BlockParam::None => show(rt, b" none"),
+        BlockParam::Single(a) => show_name(rt, text, a),
         BlockParam::Pair(a, b) => {
-            show_name(text, a);
-            show_name(text, b);
+            show_name(rt, text, a)?;
+            show_name(rt, text, b)
         }
     }
 }
 
-fn show_block_read(text: &[u8], words: &[u32], r: BlockRead) {
+fn show_block_read(rt: &impl Print, text: &[u8], words: &[u32], r: BlockRead) -> io::Result<()> {
     let BlockRead::Done(block, next) = r else {
-        show(b" ended");
-        return;
+        return show(rt, b" ended");
     };
-    show_block_param(text, block);
-    show_then(words, next);
+    show_block_param(rt, text, block)?;
+    show_then(rt, words, next)
 }
 
-fn show_tilde_read(words: &[u32], r: TildeRead) {
+fn show_tilde_read(rt: &impl Print, words: &[u32], r: TildeRead) -> io::Result<()> {
     let TildeRead::Done(left, next) = r else {
-        show(b" ended");
-        return;
+        return show(rt, b" ended");
     };
-    show(b" ");
-    show_bit(left);
-    show_then(words, next);
+    show(rt, b" ")?;
+    show_bit(rt, left)?;
+    show_then(rt, words, next)
 }
 
 // The parameters in order.
-fn show_params(text: &[u8], words: &[u32], parts: Parts) {
+fn show_params(rt: &impl Print, text: &[u8], words: &[u32], parts: Parts) -> io::Result<()> {
     let mut rest = parts;
     loop {
         let n = next_param(text, words, rest);
         match n {
             ParamStep::Param(v, after) => {
-                show(b" param");
-                show_parameter(text, v);
+                show(rt, b" param")?;
+                show_parameter(rt, text, v)?;
                 rest = after;
             }
             ParamStep::End => {
-                return;
+                return Ok(());
             }
             ParamStep::Failed(f) => {
-                show_fault(f);
-                return;
+                return show_fault(rt, f);
             }
         }
     }
 }
 
 // The keys in byte order, at most as many as there are spans.
-fn show_keys(text: &[u8], words: &[u32], parts: Parts) {
+fn show_keys(rt: &impl Print, text: &[u8], words: &[u32], parts: Parts) -> io::Result<()> {
     let mut bound = Bound::None;
-    let mut left = span_count(words);
-    while 0 < left {
+    for _ in 0..span_count(words) {
         let n = next_key(text, words, parts, bound);
         match n {
             KeyStep::Key(h) => {
                 let key = h.key;
                 let value = h.value;
-                show(b" key");
-                show_name(text, key);
-                show_parameter(text, value);
+                show(rt, b" key")?;
+                show_name(rt, text, key)?;
+                show_parameter(rt, text, value)?;
                 bound = Bound::Above(key);
-                left -= 1;
             }
             KeyStep::End => {
-                return;
+                return Ok(());
             }
             KeyStep::Failed(f) => {
-                show_fault(f);
-                return;
+                return show_fault(rt, f);
             }
         }
     }
+    Ok(())
 }
 
-fn show_expression(text: &[u8], words: &[u32], x: ExpressionSpec) {
+fn show_expression(
+    rt: &impl Print,
+    text: &[u8],
+    words: &[u32],
+    x: ExpressionSpec,
+) -> io::Result<()> {
     let name = x.name;
     let parts = x.parts;
     let block = x.block_param;
-    show(b" ");
-    show_bit(x.omit_pre_ws);
-    show_parameter(text, name);
-    show_as_name(text, name);
-    show_params(text, words, parts);
-    show_keys(text, words, parts);
-    show(b" as");
-    show_block_param(text, block);
-    show(b" ");
-    show_bit(x.omit_pro_ws);
-    show_then(words, x.next);
+    show(rt, b" ")?;
+    show_bit(rt, x.omit_pre_ws)?;
+    show_parameter(rt, text, name)?;
+    show_as_name(rt, text, name)?;
+    show_params(rt, text, words, parts)?;
+    show_keys(rt, text, words, parts)?;
+    show(rt, b" as")?;
+    show_block_param(rt, text, block)?;
+    show(rt, b" ")?;
+    show_bit(rt, x.omit_pro_ws)?;
+    show_then(rt, words, x.next)
 }
 
-fn show_expression_read(text: &[u8], words: &[u32], r: ExpressionRead) {
+fn show_expression_read(
+    rt: &impl Print,
+    text: &[u8],
+    words: &[u32],
+    r: ExpressionRead,
+) -> io::Result<()> {
     match r {
-        ExpressionRead::Done(x) => show_expression(text, words, x),
-        ExpressionRead::Failed(f) => show_fault(f),
+        ExpressionRead::Done(x) => show_expression(rt, text, words, x),
+        ExpressionRead::Failed(f) => show_fault(rt, f),
     }
 }
 
 // What each reader answers behind number `k`, up to the end of the span there.
-fn show_at(text: &[u8], words: &[u32], k: usize, depth: usize) {
+fn show_at(rt: &impl Print, text: &[u8], words: &[u32], k: usize, depth: usize) -> io::Result<()> {
     let s = span_at(words, k);
     let at = after(words, k);
-    show_number(k);
-    show(b" tilde");
-    show_tilde_read(words, parse_tilde(words, at));
-    show(b" | block");
-    show_block_read(text, words, parse_block_param(words, at, s.end));
-    show(b" | name");
-    show_param_read(text, words, parse_name(text, words, at, depth, true));
-    show(b" | param");
-    show_param_read(text, words, parse_param(text, words, at, depth, true));
-    show(b" | hash");
-    show_hash_read(text, words, parse_hash(text, words, at, depth, true));
-    show(b" | sub");
+    show_number(rt, k)?;
+    show(rt, b" tilde")?;
+    show_tilde_read(rt, words, parse_tilde(words, at))?;
+    show(rt, b" | block")?;
+    show_block_read(rt, text, words, parse_block_param(words, at, s.end))?;
+    show(rt, b" | name")?;
+    show_param_read(rt, text, words, parse_name(text, words, at, depth, true))?;
+    show(rt, b" | param")?;
+    show_param_read(rt, text, words, parse_param(text, words, at, depth, true))?;
+    show(rt, b" | hash")?;
+    show_hash_read(rt, text, words, parse_hash(text, words, at, depth, true))?;
+    show(rt, b" | sub")?;
     show_param_read(
+        rt,
         text,
         words,
         parse_subexpression(text, words, at, s.end, depth, true),
-    );
-    show(b" | expression");
+    )?;
+    show(rt, b" | expression")?;
     show_expression_read(
+        rt,
         text,
         words,
         parse_expression(text, words, at, s.end, depth, true),
-    );
-    show(b"\n");
+    )?;
+    show(rt, b"\n")
 }
 
 // The same by a link, with the full depth and with literals as they stand.
-fn show_entered(text: &[u8], words: &[u32], k: usize) {
+fn show_entered(rt: &impl Print, text: &[u8], words: &[u32], k: usize) -> io::Result<()> {
     let s = span_at(words, k);
     let link = Subexpression {
         from: after(words, k),
         limit: s.end,
         depth: Subexpression::LIMIT,
     };
-    show_number(k);
-    show(b" entered");
-    show_expression_read(text, words, enter(text, words, link));
-    show(b"\n");
+    show_number(rt, k)?;
+    show(rt, b" entered")?;
+    show_expression_read(rt, text, words, enter(text, words, link))?;
+    show(rt, b"\n")
 }
 
 // The number after `k`, as far as there are spans.
@@ -284,37 +295,53 @@ fn after(words: &[u32], k: usize) -> usize {
 
 // Every number up to one past the last span, with a depth of 0, 1 and 2 in turn and by a link, and the
 // largest number of all.
-fn show_record(text: &[u8], words: &[u32]) {
+fn show_record(rt: &impl Print, text: &[u8], words: &[u32]) -> io::Result<()> {
     let n = span_count(words);
-    show(b"count ");
-    show_number(n);
-    show(b"\n");
+    show(rt, b"count ")?;
+    show_number(rt, n)?;
+    show(rt, b"\n")?;
     for k in 0..n + 1 {
-        show_at(text, words, k, k % 3);
-        show_entered(text, words, k);
+        show_at(rt, text, words, k, k % 3)?;
+        show_entered(rt, text, words, k)?;
     }
-    show_at(text, words, usize::MAX, usize::MAX);
+    show_at(rt, text, words, usize::MAX, usize::MAX)
 }
 
-fn replay_record(text: &[u8], line: &[u8]) {
+fn replay_record(rt: &impl Print, text: &[u8], line: &[u8]) -> io::Result<()> {
     let mut words = [0u32; 3 * Span::LIMIT];
     let n = read_words(line, &mut words);
-    show_record(text, &words[..n]);
+    show_record(rt, text, &words[..n])
 }
 
-fn replay(input: &[u8]) {
+fn replay(rt: &impl Print, input: &[u8]) -> io::Result<()> {
     let mut at: usize = 0;
     while at < input.len() {
         let text = line_at(input, at);
         let second = at + text.len() + 1;
         let words = line_at(input, second);
-        replay_record(text, words);
+        replay_record(rt, text, words)?;
         at = second + words.len() + 1;
     }
+    Ok(())
 }
 
-fn main() {
-    let mut input = io::large_buffer();
-    let n = io::read_full(STDIN_FILENO, &mut input);
-    replay(&input[..n]);
+// Fills the buffer as far as there is input, and answers how many bytes there were.
+fn read_full(input: &mut impl Read, buf: &mut [u8]) -> io::Result<usize>
+    ensures { IfOk result (λ n. n ≤ length buf.new) }
+{
+    let mut done = 0;
+    for _ in 0..u64::MAX {
+        let n = input.read(&mut buf[done..])?;
+        if n == 0 {
+            break;
+        }
+        done += n;
+    }
+    Ok(done)
+}
+
+fn main(rt: HostRuntime) -> io::Result<()> {
+    let mut input = [0u8; LIMIT];
+    let n = read_full(&mut rt.stdin(), &mut input)?;
+    replay(&rt, &input[..n])
 }
