@@ -3,105 +3,126 @@
 // and numbers around each power of ten. What is written is compared with that of tools/listing.
 #![tactic(auto)]
 
-ghost use Rattle.std.specs.Prelude.{◌≤◌, ◌<◌};
+ghost use Rattle.std.specs.Prelude.{◌≤◌, ◌<◌, length, IfOk};
 
 use card::stored::{line_at, read_words};
 use expression::parameter::Subexpression;
 use json_path::span::{Span, span_at, span_count};
-use libc::{STDIN_FILENO, STDOUT_FILENO};
 use listing::children::{write_decorator, write_helper};
 use listing::write::{write_decimal, write_quoted};
+use std::io::{self, Read};
 use support::bytes::part;
+
+// How many bytes of input are read.
+const LIMIT: usize = 65536;
 
 const ROOM: usize = 8192;
 
-fn show(bytes: &[u8]) {
-    io::write_all(STDOUT_FILENO, bytes);
+fn show(rt: &impl Print, bytes: &[u8]) -> io::Result<()> {
+    rt.write_all(bytes)
 }
 
-fn show_number(n: usize) {
-    io::print_decimal(STDOUT_FILENO, n as u64);
+fn show_number(rt: &impl Print, n: usize) -> io::Result<()> {
+    rt.print(n)
 }
 
 // One byte, quoted, on a line.
-fn show_byte(b: u8) {
+fn show_byte(rt: &impl Print, b: u8) -> io::Result<()> {
     let text = [b; 1];
     let mut out = [0u8; 8];
     let n = write_quoted(&mut out, 0, &text);
-    show(part(&out, 0, n));
-    show(b"\n");
+    show(rt, part(&out, 0, n))?;
+    show(rt, b"\n")
 }
 
 // Every byte quoted, and all in one text.
-fn show_bytes() {
+fn show_bytes(rt: &impl Print) -> io::Result<()> {
     let mut all = [0u8; 256];
     for b in 0..256 {
-        show_byte(b as u8);
+        show_byte(rt, b as u8)?;
         all[b] = b as u8;
     }
     let mut out = [0u8; 600];
     let n = write_quoted(&mut out, 0, &all);
-    show(part(&out, 0, n));
-    show(b"\n");
+    show(rt, part(&out, 0, n))?;
+    show(rt, b"\n")
 }
 
-fn show_decimal(n: usize) {
+fn show_decimal(rt: &impl Print, n: usize) -> io::Result<()> {
     let mut out = [0u8; 24];
     let m = write_decimal(&mut out, 0, n);
-    show(part(&out, 0, m));
-    show(b"\n");
+    show(rt, part(&out, 0, m))?;
+    show(rt, b"\n")
 }
 
 // One less, the number and one more.
-fn show_around(p: usize)
+fn show_around(rt: &impl Print, p: usize) -> io::Result<()>
     requires { (1 ≤ p) × (p < 0xFFFFFFFFFFFFFFFF) }
 {
-    show_decimal(p - 1);
-    show_decimal(p);
-    show_decimal(p + 1);
+    show_decimal(rt, p - 1)?;
+    show_decimal(rt, p)?;
+    show_decimal(rt, p + 1)
 }
 
 // Each power of ten, and the largest number.
-fn show_numbers() {
+fn show_numbers(rt: &impl Print) -> io::Result<()> {
     let mut p: usize = 1;
     while p <= 1_000_000_000_000_000_000 {
-        show_around(p);
+        show_around(rt, p)?;
         p *= 10;
     }
-    show_around(p);
-    show_decimal(usize::MAX);
+    show_around(rt, p)?;
+    show_decimal(rt, usize::MAX)
 }
 
 // What a call measures over no output, and what it writes.
-fn show_written(k: usize, word: &[u8], measured: usize, bytes: &[u8]) {
-    show_number(k);
-    show(word);
-    show_number(measured);
-    show(b"\n");
-    show(bytes);
+fn show_written(
+    rt: &impl Print,
+    k: usize,
+    word: &[u8],
+    measured: usize,
+    bytes: &[u8],
+) -> io::Result<()> {
+    show_number(rt, k)?;
+    show(rt, word)?;
+    show_number(rt, measured)?;
+    show(rt, b"\n")?;
+    show(rt, bytes)
 }
 
-fn show_decorator(text: &[u8], words: &[u32], k: usize, link: Subexpression) {
+fn show_decorator(
+    rt: &impl Print,
+    text: &[u8],
+    words: &[u32],
+    k: usize,
+    link: Subexpression,
+) -> io::Result<()> {
     let mut out = [0u8; ROOM];
     let mut none = [0u8; 0];
     let m = write_decorator(&mut none, 0, text, words, link);
     let n = write_decorator(&mut out, 0, text, words, link);
-    show_written(k, b" decorator ", m, part(&out, 0, n));
+    show_written(rt, k, b" decorator ", m, part(&out, 0, n))
 }
 
-fn show_helper(text: &[u8], words: &[u32], k: usize, link: Subexpression) {
+fn show_helper(
+    rt: &impl Print,
+    text: &[u8],
+    words: &[u32],
+    k: usize,
+    link: Subexpression,
+) -> io::Result<()> {
     let mut out = [0u8; ROOM];
     let mut none = [0u8; 0];
     let m = write_helper(&mut none, 0, text, words, link);
     let n = write_helper(&mut out, 0, text, words, link);
-    show_written(k, b" helper ", m, part(&out, 0, n));
+    show_written(rt, k, b" helper ", m, part(&out, 0, n))
 }
 
 // The expression behind a tag that has one, or behind a subexpression.
-fn show_at(text: &[u8], words: &[u32], k: usize) {
+fn show_at(rt: &impl Print, text: &[u8], words: &[u32], k: usize) -> io::Result<()> {
     let s = span_at(words, k);
     if span_count(words) <= k {
-        return;
+        return Ok(());
     }
     let link = Subexpression {
         from: k + 1,
@@ -111,44 +132,62 @@ fn show_at(text: &[u8], words: &[u32], k: usize) {
     let tag = s.tag;
     match tag {
         5..=18 | 27 => {
-            show_decorator(text, words, k, link);
-            show_helper(text, words, k, link);
+            show_decorator(rt, text, words, k, link)?;
+            show_helper(rt, text, words, k, link)
         }
-        _ => {}
+        _ => Ok(()),
     }
 }
 
-fn show_record(text: &[u8], words: &[u32]) {
+fn show_record(rt: &impl Print, text: &[u8], words: &[u32]) -> io::Result<()> {
     let n = span_count(words);
-    show(b"count ");
-    show_number(n);
-    show(b"\n");
+    show(rt, b"count ")?;
+    show_number(rt, n)?;
+    show(rt, b"\n")?;
     for k in 0..n {
-        show_at(text, words, k);
+        show_at(rt, text, words, k)?;
     }
+    Ok(())
 }
 
-fn replay_record(text: &[u8], line: &[u8]) {
+fn replay_record(rt: &impl Print, text: &[u8], line: &[u8]) -> io::Result<()> {
     let mut words = [0u32; 3 * Span::LIMIT];
     let n = read_words(line, &mut words);
-    show_record(text, &words[..n]);
+    show_record(rt, text, &words[..n])
 }
 
-fn replay(input: &[u8]) {
+fn replay(rt: &impl Print, input: &[u8]) -> io::Result<()> {
     let mut at: usize = 0;
     while at < input.len() {
         let text = line_at(input, at);
         let second = at + text.len() + 1;
         let words = line_at(input, second);
-        replay_record(text, words);
+        replay_record(rt, text, words)?;
         at = second + words.len() + 1;
     }
+    Ok(())
 }
 
-fn main() {
-    let mut input = io::large_buffer();
-    let n = io::read_full(STDIN_FILENO, &mut input);
-    show_bytes();
-    show_numbers();
-    replay(&input[..n]);
+// Fills the buffer as far as there is input, and answers how many bytes there were. A proved loop has
+// to end, and nothing says that the input does: so the turns are counted.
+fn read_full(input: &mut impl Read, buf: &mut [u8]) -> io::Result<usize>
+    ensures { IfOk result (λ n. n ≤ length buf.new) }
+{
+    let mut done = 0;
+    for _ in 0..u64::MAX {
+        let n = input.read(&mut buf[done..])?;
+        if n == 0 {
+            break;
+        }
+        done += n;
+    }
+    Ok(done)
+}
+
+fn main(rt: HostRuntime) -> io::Result<()> {
+    let mut input = [0u8; LIMIT];
+    let n = read_full(&mut rt.stdin(), &mut input)?;
+    show_bytes(&rt)?;
+    show_numbers(&rt)?;
+    replay(&rt, &input[..n])
 }
