@@ -5,13 +5,13 @@
 // times as much. The answers are compared with those of tools/cards.
 #![tactic(auto)]
 
-ghost use Rattle.std.specs.Prelude.{◌≤◌, length};
+ghost use Rattle.std.specs.Prelude.{◌≤◌, length, IfOk};
 
 use card::number::read_digits;
 use card::read::{Card, CardRead, read_card};
 use card::stored::line_at;
-use libc::{STDIN_FILENO, STDOUT_FILENO};
-use support::bytes::{byte_at, part, same_bytes};
+use std::io::{self, Read};
+use support::bytes::{part, same_bytes};
 use template::compile::{Answer, compile2};
 
 // The byte that stands where nothing is written.
@@ -23,30 +23,28 @@ const SHORT: usize = 256;
 // The longest that is shown whole.
 const LONG: usize = 4096;
 
-fn show(bytes: &[u8]) {
-    io::write_all(STDOUT_FILENO, bytes);
+fn show(rt: &impl Print, bytes: &[u8]) -> io::Result<()> {
+    rt.write_all(bytes)
 }
 
-fn show_number(n: usize) {
-    io::print_decimal(STDOUT_FILENO, n as u64);
+fn show_number(rt: &impl Print, n: usize) -> io::Result<()> {
+    rt.print(n)
 }
 
-fn show_refusal(number: usize, place: usize) {
-    show(b"refused ");
-    show_number(number);
-    show(b" at ");
-    show_number(place);
-    show(b"\n");
+fn show_refusal(rt: &impl Print, number: usize, place: usize) -> io::Result<()> {
+    show(rt, b"refused ")?;
+    show_number(rt, number)?;
+    show(rt, b" at ")?;
+    show_number(rt, place)?;
+    show(rt, b"\n")
 }
 
 // Whether all bytes are canaries.
 fn untouched(bytes: &[u8]) -> bool {
-    let mut i = 0;
-    while i < bytes.len() {
-        if bytes[i] != CANARY {
+    for b in bytes {
+        if *b != CANARY {
             return false;
         }
-        i += 1;
     }
     true
 }
@@ -80,32 +78,34 @@ fn good_room(text: &[u8], words: &[u32], options: u32, listing: &[u8], room: usi
 // A sum in which a byte counts by its place, so that few wrong listings have the right one.
 fn sum_of(bytes: &[u8]) -> usize {
     let mut sum: usize = 0;
-    let mut i = 0;
-    while i < bytes.len() {
-        let b = byte_at(bytes, i);
-        sum = (sum * 31 + b as usize) % 1000003;
-        i += 1;
+    for b in bytes {
+        sum = (sum * 31 + *b as usize) % 1000003;
     }
     sum
 }
 
 // A listing, or its length and sum.
-fn show_listing(listing: &[u8]) {
+fn show_listing(rt: &impl Print, listing: &[u8]) -> io::Result<()> {
     if listing.len() <= LONG {
-        show(listing);
-        return;
+        return show(rt, listing);
     }
-    show(b"a listing of ");
-    show_number(listing.len());
-    show(b" bytes with sum ");
-    show_number(sum_of(listing));
-    show(b"\n");
+    show(rt, b"a listing of ")?;
+    show_number(rt, listing.len())?;
+    show(rt, b" bytes with sum ")?;
+    show_number(rt, sum_of(listing))?;
+    show(rt, b"\n")
 }
 
 // How many rooms from 0 to past the listing are answered as they should be.
-fn show_rooms(text: &[u8], words: &[u32], options: u32, listing: &[u8]) {
+fn show_rooms(
+    rt: &impl Print,
+    text: &[u8],
+    words: &[u32],
+    options: u32,
+    listing: &[u8],
+) -> io::Result<()> {
     if SHORT < listing.len() {
-        return;
+        return Ok(());
     }
     let mut good: usize = 0;
     for room in 0..listing.len() + 4 {
@@ -113,60 +113,62 @@ fn show_rooms(text: &[u8], words: &[u32], options: u32, listing: &[u8]) {
             good += 1;
         }
     }
-    show(b"rooms ");
-    show_number(good);
-    show(b"\n");
+    show(rt, b"rooms ")?;
+    show_number(rt, good)?;
+    show(rt, b"\n")
 }
 
 // The answer with room for four times as much.
-fn show_longer(text: &[u8], words: &[u32], options: u32) {
+fn show_longer(rt: &impl Print, text: &[u8], words: &[u32], options: u32) -> io::Result<()> {
     let mut out = [CANARY; 262144];
     let a = compile2(text, words, options, &mut out);
     match a {
         Answer::Listed(n) => {
-            show_listing(part(&out, 0, n));
+            show_listing(rt, part(&out, 0, n))?;
             if !untouched(part(&out, n, out.len())) {
-                show(b"and more was written\n");
+                show(rt, b"and more was written\n")?;
             }
+            Ok(())
         }
-        Answer::Refused(number, place) => show_refusal(number as usize, place),
+        Answer::Refused(number, place) => show_refusal(rt, number as usize, place),
     }
 }
 
-fn show_answer(text: &[u8], words: &[u32], options: u32) {
+fn show_answer(rt: &impl Print, text: &[u8], words: &[u32], options: u32) -> io::Result<()> {
     let mut out = [0u8; 65536];
     let a = compile2(text, words, options, &mut out);
     match a {
         Answer::Listed(n) => {
-            show_listing(part(&out, 0, n));
-            show_rooms(text, words, options, part(&out, 0, n));
+            show_listing(rt, part(&out, 0, n))?;
+            show_rooms(rt, text, words, options, part(&out, 0, n))
         }
         Answer::Refused(number, place) => {
-            show_refusal(number as usize, place);
+            show_refusal(rt, number as usize, place)?;
             if number == 14 {
-                show_longer(text, words, options);
+                show_longer(rt, text, words, options)?;
             }
+            Ok(())
         }
     }
 }
 
-fn show_card(input: &[u8]) {
+fn show_card(rt: &impl Print, input: &[u8]) -> io::Result<()> {
     let mut words = [0u32; Card::WORDS];
     let c = read_card(input, &mut words);
     let CardRead::Card(card) = c else {
-        show_refusal(15, 0);
-        return;
+        return show_refusal(rt, 15, 0);
     };
     let n = card.words;
     show_answer(
+        rt,
         part(input, card.text, input.len()),
         &words[..n],
         card.options,
-    );
+    )
 }
 
 // Each card, behind its number.
-fn replay(input: &[u8]) {
+fn replay(rt: &impl Print, input: &[u8]) -> io::Result<()> {
     let mut at: usize = 0;
     let mut number: usize = 0;
     while at < input.len() {
@@ -174,17 +176,34 @@ fn replay(input: &[u8]) {
         let length = read_digits(line, 0);
         let start = at + line.len() + 1;
         let end = start + length.value as usize;
-        show(b"card ");
-        show_number(number);
-        show(b"\n");
-        show_card(part(input, start, end));
+        show(rt, b"card ")?;
+        show_number(rt, number)?;
+        show(rt, b"\n")?;
+        show_card(rt, part(input, start, end))?;
         number += 1;
         at = end;
     }
+    Ok(())
 }
 
-fn main() {
+// Fills the buffer as far as there is input, and answers how many bytes there were. A proved loop has
+// to end, and nothing says that the input does: so the turns are counted.
+fn read_full(input: &mut impl Read, buf: &mut [u8]) -> io::Result<usize>
+    ensures { IfOk result (λ n. n ≤ length buf.new) }
+{
+    let mut done = 0;
+    for _ in 0..u64::MAX {
+        let n = input.read(&mut buf[done..])?;
+        if n == 0 {
+            break;
+        }
+        done += n;
+    }
+    Ok(done)
+}
+
+fn main(rt: HostRuntime) -> io::Result<()> {
     let mut input = [0u8; 524288];
-    let n = io::read_full(STDIN_FILENO, &mut input);
-    replay(&input[..n]);
+    let n = read_full(&mut rt.stdin(), &mut input)?;
+    replay(&rt, &input[..n])
 }
