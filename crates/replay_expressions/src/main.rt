@@ -325,7 +325,8 @@ fn replay(rt: &impl Print, input: &[u8]) -> io::Result<()> {
     Ok(())
 }
 
-// Fills the buffer as far as there is input, and answers how many bytes there were.
+// Fills the buffer as far as there is input, and answers how many bytes there were. A proved loop has
+// to end, and nothing says that the input does: so the turns are counted.
 fn read_full(input: &mut impl Read, buf: &mut [u8]) -> io::Result<usize>
     ensures { IfOk result (λ n. n ≤ length buf.new) }
 {

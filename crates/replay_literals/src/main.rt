@@ -50,7 +50,8 @@ fn answer(rt: &impl Print, kind: u8, text: &[u8]) -> io::Result<()> {
     write_byte(rt, b'\n')
 }
 
-// Fills the buffer as far as there is input, and answers how many bytes there were.
+// Fills the buffer as far as there is input, and answers how many bytes there were. A proved loop has
+// to end, and nothing says that the input does: so the turns are counted.
 fn read_full(input: &mut impl Read, buf: &mut [u8]) -> io::Result<usize>
     ensures { IfOk result (λ n. n ≤ length buf.new) }
 {
