@@ -6,7 +6,7 @@ crate in the gate; there the check refuses the file if it refuses one of them. T
 repository to a temporary folder and tries each wrong program alone.
 
     tools/edits/singly.py NAME...          by `rt must-fail`, the verdict: over an hour for all crates
-    tools/edits/singly.py --dev NAME...    by `rt dev`: seconds for each, and it prints the first error
+    tools/edits/singly.py --dev NAME...    by `rt check`: seconds for each, and it prints the first error
 
 Without a name every crate is tried.
 """
@@ -44,10 +44,12 @@ def by_must_fail(copy, names):
 
 
 def dev(copy, name):
-    """What `rt dev` says of a crate: its first error, and nothing where it is proved."""
-    ran = subprocess.run(["rt", "dev", name], cwd=copy, capture_output=True, text=True)
+    """What `rt check` says of a crate: its first error, and nothing where it is proved. A proof file that
+    names what the edit took away says nothing of the contract, so such an error comes last."""
+    ran = subprocess.run(["rt", "check"], cwd=copy / "crates" / name, capture_output=True, text=True)
     lines = (ran.stdout + ran.stderr).split("\n")
-    errors = [line for line in lines if ": error" in line or "no proof: expected" in line]
+    errors = [line for line in lines if ": error" in line or "it is not proved that" in line]
+    errors.sort(key=lambda line: bool(re.search(r"has no `|has no field|declarations? that depend", line)))
     return None if ran.returncode == 0 else (errors or lines)[0]
 
 
@@ -76,7 +78,7 @@ def main():
     quick = words[:1] == ["--dev"]
     with tempfile.TemporaryDirectory() as folder:
         copy = pathlib.Path(folder) / "repository"
-        shutil.copytree(ROOT, copy, ignore=shutil.ignore_patterns(".git"))
+        shutil.copytree(ROOT, copy, ignore=shutil.ignore_patterns(".git", "out"))
         wanted = words[quick:] or [p.name for p in sorted((copy / "crates").iterdir())]
         names = [n for n in wanted if (copy / "crates" / n / "must-fail").is_dir()]
         return (by_dev if quick else by_must_fail)(copy, names)
