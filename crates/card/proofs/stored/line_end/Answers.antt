@@ -14,7 +14,7 @@ returns-then-s-i-eq10 c =
 pub loop-i-preserved : goal.loop-i-preserved
 loop-i-preserved c =
     let l = c.loop-i in
-    let e = laws.line_other c.args.s.now l.i (omega arith) c.if-s-i-eq10.false in
+    let e = laws.line_other c.args.s.now l.i (omega arith) (omega arith) in
     omega arith
 
 pub returns : goal.returns

@@ -23,4 +23,4 @@ returns-then-s-eq34 c =
 pub returns : goal.returns
 returns c =
     let next-span = c.next_span-n in
-    laws.tilde_no (json.next_found c.in-Span.is next-span.ensures) c.if-s-eq34.false
+    laws.tilde_no (json.next_found c.in-Span.is next-span.ensures) (omega arith)

@@ -10,4 +10,4 @@ pub returns-then-s-eq-ESCAPE : goal.returns-then-s-eq-ESCAPE
 returns-then-s-eq-ESCAPE c = laws.escape_here c.span_at-s.ensures (omega arith) c.if-s-eq-ESCAPE.true
 
 pub returns : goal.returns
-returns c = laws.escape_other c.span_at-s.ensures (omega arith) c.if-s-eq-ESCAPE.false
+returns c = laws.escape_other c.span_at-s.ensures (omega arith) (omega arith)

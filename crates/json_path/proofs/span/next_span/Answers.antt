@@ -15,7 +15,7 @@ returns-then-s-ne-ESCAPE c =
 pub loop-i-preserved : goal.loop-i-preserved
 loop-i-preserved c =
     let l = c.loop-i in
-    laws.passing_on l.invariant c.span_at-s.ensures (omega arith) c.if-s-ne-ESCAPE.false
+    laws.passing_on l.invariant c.span_at-s.ensures (omega arith) (cc)
 
 pub returns : goal.returns
 returns c = laws.passing_end c.loop-i.invariant (omega arith)

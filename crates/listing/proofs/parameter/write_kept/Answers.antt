@@ -18,4 +18,4 @@ shape_of-out c = writes.written_length c.write_part.ensures
 pub returns : goal.returns
 returns c =
     let a = c.args in
-    params.kept_as_written a.text.now a.l c.if-rewritten.false c.write_part.ensures
+    params.kept_as_written a.text.now a.l (cc) c.write_part.ensures

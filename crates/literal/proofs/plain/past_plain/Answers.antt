@@ -14,4 +14,4 @@ returns-in_default-p c = plain.stays c.in-Inner.is
 
 pub returns : goal.returns
 returns c =
-    plain.goes c.args.text.now _ c.plain_from.result c.in-Inner.is c.in-InString.is c.in-Between.is c.plain_from.ensures
+    plain.goes c.args.text.now _ c.plain_from.result c.in-Inner.is c.in-InString.is (cc) c.plain_from.ensures
