@@ -1,4 +1,4 @@
--- What `readField` and `readLine` read: their cases, and the bytes that they take. Assumes nothing.
+-- What `read_field` and `read_line` read: their cases, and the bytes that they take. Assumes nothing.
 use Prim.Native.Nat.{ℕ, suc, ◌+◌, ◌≤◌, ◌<◌}
 use native.Mathlib.Omega.{arith}
 use mathlib.Core.Path.{◌≡◌, refl, sym, ap, ◌∙◌}

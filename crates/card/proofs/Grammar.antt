@@ -1,4 +1,4 @@
--- What is read is what is written: `readCard` gives what a card says exactly for the bytes that are a card, and one input is one card at most.
+-- What is read is what is written: `read_card` gives what a card says exactly for the bytes that are a card, and one input is one card at most.
 -- Digits end at the byte behind them, which is none, so that each number is read whole. Assumes nothing.
 use Prim.Native.Nat.{ℕ, zero, suc, ◌+◌, ◌-◌, ◌*◌, ◌≤◌}
 use native.Mathlib.Omega.{arith}

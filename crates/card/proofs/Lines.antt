@@ -1,4 +1,4 @@
--- Span lines one after the other: `readLines` without a bound on their number. Assumes nothing.
+-- Span lines one after the other: `read_lines` without a bound on their number. Assumes nothing.
 use Prim.Native.Nat.{ℕ, zero, suc, ◌≤◌}
 use native.Mathlib.Omega.{arith}
 use mathlib.Core.Path.{◌≡◌, refl, sym, ap, ◌∙◌}

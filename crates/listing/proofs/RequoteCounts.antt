@@ -1,4 +1,4 @@
--- The length of a rewritten text is the sum of what its bytes take: by induction along `unescapeSingle`, since two `\'` cannot overlap.
+-- The length of a rewritten text is the sum of what its bytes take: by induction along `unescape_single`, since two `\'` cannot overlap.
 -- The sum goes on block by block, each with the byte behind it. Assumes nothing.
 use Prim.Native.Nat.{ℕ, zero, suc, ◌+◌, ◌-◌, ◌≤◌, ◌<◌}
 use native.Mathlib.Omega.{arith}

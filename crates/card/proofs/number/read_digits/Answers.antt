@@ -1,4 +1,5 @@
 -- `card::number::read_digits` meets its contract: what is read from the index on, after the value so far, is what is read from the start on.
+-- Assumes nothing.
 use native.Mathlib.Omega.{arith}
 use mathlib.Core.Path.{sym, ◌∙◌}
 use lib.ListN.{get_or}

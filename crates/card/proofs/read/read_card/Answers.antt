@@ -1,4 +1,5 @@
--- `card::read::read_card` meets its contract: its answers are the cases of `readCard`, and what was read over no words left the lent ones as
+-- `card::read::read_card` meets its contract: its answers are the cases of `read_card`, and what was read over no words left the lent ones as
+-- they were. Assumes nothing.
 use Rattle.card.proofs.FieldLaws as fields
 use Rattle.card.proofs.CardLaws as laws
 use Rattle.card.proofs.read.read_card.Goals as goal

@@ -1,4 +1,5 @@
 -- `card::read::read_field` meets its contract: each answer is a case of the definition, by how many digits there are and the byte behind them.
+-- Assumes nothing.
 use Rattle.card.proofs.FieldLaws as laws
 use Rattle.card.proofs.read.read_field.Goals as goal
 

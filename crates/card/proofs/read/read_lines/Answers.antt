@@ -1,4 +1,5 @@
 -- `card::read::read_lines` meets its contract: the words of the lines before the offset are stored. A word takes a byte at least, so the count of
+-- the words fits. Assumes nothing.
 use native.Mathlib.Omega.{arith}
 use mathlib.Core.Path.{ap, ◌∙◌}
 use lib.ListN.{length}

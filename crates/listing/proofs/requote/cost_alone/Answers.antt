@@ -1,4 +1,4 @@
--- `listing::requote::cost_alone` meets its contract: a case of `costAlone` for each way out. Assumes nothing.
+-- `listing::requote::cost_alone` meets its contract: a case of `cost_alone` for each way out. Assumes nothing.
 use native.Mathlib.Omega.{arith}
 use mathlib.Core.Path.{sym}
 use Rattle.listing.proofs.RequoteCounts as counts

@@ -1,4 +1,5 @@
 -- `listing::write::write_decimal` meets its contract. The measure is the number. Its digits are those of its tenth, written by the call, and
+-- its last digit. Assumes nothing.
 use native.Mathlib.Omega.{arith}
 use mathlib.Core.Path.{◌∙◌}
 use Rattle.listing.proofs.Writes as writes

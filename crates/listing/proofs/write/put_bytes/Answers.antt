@@ -1,4 +1,5 @@
 -- `listing::write::put_bytes` meets its contract: the invariant says that the first `i` bytes are written; a turn writes one more. Where
+-- nothing can be stored only the position changes. Assumes nothing.
 use native.Mathlib.Omega.{arith}
 use Rattle.listing.proofs.Writes as writes
 use Rattle.listing.proofs.write.put_bytes.Goals as goal

@@ -1,4 +1,5 @@
 -- `support::bytes::precedes` meets its contract: the invariant says that what is left to compare decides; blocks that are the same, and then each turn, take equal
+-- bytes off both strings. Assumes nothing.
 use native.Mathlib.Omega.{arith}
 use mathlib.Core.Path.{sym, ◌∙◌}
 use Rattle.support.proofs.ByteLaws as bytes

@@ -1,4 +1,4 @@
--- `support::position::next_place` meets its contract: a case of `nextPlace` for each way out. Assumes nothing.
+-- `support::position::next_place` meets its contract: a case of `next_place` for each way out. Assumes nothing.
 use mathlib.Core.Path.{sym, ap, ◌∙◌}
 use Rattle.support.specs.Position.{at}
 use Rattle.support.proofs.Places as places

@@ -1,4 +1,4 @@
--- `support::position::one_more` meets its contract: the test is that of `oneMore`. Assumes nothing.
+-- `support::position::one_more` meets its contract: the test is that of `one_more`. Assumes nothing.
 use native.Mathlib.Omega.{arith}
 use borrow.Author.Tests.{lt-ltb, le-ltb}
 use Rattle.support.proofs.position.one_more.Goals as goal

@@ -1,4 +1,4 @@
--- `support::str::newline_matcher` meets its contract: the two tests are those of `isNewline`. Assumes nothing.
+-- `support::str::newline_matcher` meets its contract: the two tests are those of `is_newline`. Assumes nothing.
 use borrow.Author.Tests.{eq-eqb, ne_eqb}
 use Rattle.support.proofs.str.newline_matcher.Goals as goal
 

@@ -1,4 +1,4 @@
--- `support::str::strip_first_newline` meets its contract: a clause of `stripFirstNewline` for each way out. Assumes nothing.
+-- `support::str::strip_first_newline` meets its contract: a clause of `strip_first_newline` for each way out. Assumes nothing.
 use native.Mathlib.Omega.{arith}
 use mathlib.Core.Path.{◌∙◌}
 use Rattle.support.proofs.Pieces as pieces

@@ -1,4 +1,4 @@
--- `support::str::whitespace_matcher` meets its contract: the two tests are those of `isBlank`. Assumes nothing.
+-- `support::str::whitespace_matcher` meets its contract: the two tests are those of `is_blank`. Assumes nothing.
 use borrow.Author.Tests.{eq-eqb, ne_eqb}
 use Rattle.support.proofs.str.whitespace_matcher.Goals as goal
 

@@ -1,4 +1,4 @@
--- The test is that of `isHigh`. Assumes nothing.
+-- The test is that of `is_high`. Assumes nothing.
 use native.Mathlib.Omega.{arith}
 use mathlib.Core.Path.{sym}
 use mathlib.Core.Bool.{true, false}

@@ -1,4 +1,5 @@
 -- The first loop keeps what proofs/Loop says, by the stages of a turn; the answer is what proofs/WalkStages says of a visit, or what proofs/Finishing
+-- says of the end of the list. The second loop keeps what proofs/Pass says. Assumes nothing.
 use native.Mathlib.Omega.{arith}
 use mathlib.Core.Path.{refl, ap, sym, ◌∙◌}
 use Rattle.listing.proofs.Writes.{written_length}
