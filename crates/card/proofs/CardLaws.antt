@@ -14,7 +14,7 @@ use Rattle.card.specs.Read.{Read, read, other, read_mark, read_field, Lines, lin
 use Rattle.card.specs.Answers.{LineIs, LinesIs, answer_of, words_of, CardIs}
 use Rattle.card.specs.declared.read.Line.{Line}
 use Rattle.card.specs.declared.read.SpanLine as declared
-use Rattle.card.specs.declared.read.Lines as declared-lines
+use Rattle.card.specs.declared.read.Lines as declared_lines
 use Rattle.card.specs.declared.read.CardRead.TheVariants as CardRead
 use Rattle.card.proofs.Lines.{lines_read, lines_other, words_prepend, rest_prepend}
 use Rattle.card.proofs.Stores.{stored_more}
@@ -118,7 +118,7 @@ module _ {s : Bytes} (h : length s ≤ max_bytes) where
   no_options l e = untouched s l (card_no_options s h e)
 
   -- the span lines are read over no words
-  module _ {o from : ℕ} (f : Found s 0 10 o from) {m : List ℕ} {x : declared-lines.Lines} (g : LinesIs s from [] m x) where
+  module _ {o from : ℕ} (f : Found s 0 10 o from) {m : List ℕ} {x : declared_lines.Lines} (g : LinesIs s from [] m x) where
     text_at : {y : Read ℕ} → read_mark 10 (drop x.next s) ≡ y → read_mark 10 (line_rest (read_lines (drop from s))) ≡ y
     text_at e = ap (read_mark 10) g.rest ∙ e
 
@@ -138,7 +138,7 @@ module _ {s : Bytes} (h : length s ≤ max_bytes) where
         not_empty e = no_text (mark_other 10 s x.next k e)
 
         -- and then over l
-        pub card_found : get_or s x.next 0 ≡ 10 → {n : List ℕ} {y : declared-lines.Lines} → LinesIs s from (m ++ l) n y
+        pub card_found : get_or s x.next 0 ≡ 10 → {n : List ℕ} {y : declared_lines.Lines} → LinesIs s from (m ++ l) n y
             → CardIs s l n (CardRead.Card (record { options = o; words = y.words; text = x.next + 1 }))
         card_found e {n} {y} i =
             let text : Bytes = drop (x.next + 1) s in

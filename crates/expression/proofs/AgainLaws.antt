@@ -12,7 +12,7 @@ use Rattle.json_path.specs.declared.path.Name.{Name}
 use Rattle.expression.specs.Expression.{Param, subexpression, Params, param, no_keys, key, add_param, params_of, keys_of}
 use Rattle.expression.specs.Expression as spec
 use Rattle.expression.specs.Read.{Read, done, failed, mapped, Reads}
-use Rattle.expression.specs.Read as spec-read
+use Rattle.expression.specs.Read as spec_read
 use Rattle.expression.specs.Readers.{read_expression}
 use Rattle.expression.specs.Answers.{fault_means, call_or, param_means, ParamLinked, part_means, PartLinked, parts_read, FirstPart, params_read, expression_means, ExpressionIs}
 use Rattle.expression.specs.Again.{ParamStepIs, bound_means, is_above, keys_above, KeyStepIs, SubexpressionIs}
@@ -175,7 +175,7 @@ read_some : (b : Option Bytes) (k : Bytes) (v : Param) (r : List Span) (o : Read
 read_some b k v r (done xs s) e = let q : least_of b xs ≡ some (k, v) = cc in ap (λ z. done z s) (others_above b k v (keys_of xs) (sorted_keys xs) (first_least b xs ∙ q))
 read_some b k v r (failed f) e = cc
 
-read_failed : (b : Option Bytes) (f : spec-read.Fault) (o : Read (List spec.Part)) → mapped (least_of b) o ≡ failed f
+read_failed : (b : Option Bytes) (f : spec_read.Fault) (o : Read (List spec.Part)) → mapped (least_of b) o ≡ failed f
     → mapped (keys_above b) (mapped keys_of o) ≡ failed f
 read_failed b f (done xs s) e = cc
 read_failed b f (failed g) e = cc

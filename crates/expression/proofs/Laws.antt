@@ -15,7 +15,7 @@ use Rattle.json_path.specs.declared.span.Next.TheVariants as Next
 use Rattle.expression.specs.Expression.{Param, name, subexpression, call, no_params, no_keys, no_block_param, Expression, parameter, hash, block, block_after, tilde_after, params_of, keys_of, last_block, any_tilde, expression_of}
 use Rattle.expression.specs.Expression as spec
 use Rattle.expression.specs.Read.{not_allowed, over_limit, Read, done, failed, and_then, ◌>>=◌, pure, fail, mapped, read_or, Readable, next, skipping, is_tag}
-use Rattle.expression.specs.Read as spec-read
+use Rattle.expression.specs.Read as spec_read
 use Rattle.expression.specs.Readers.{is_name, read_tilde, read_own_span, read_path, read_literal, read_block_param, name_with, part_with, read_name_by, enough, read_name, read_subexpression, read_param, read_value, read_hash, read_expression, read_parts}
 use Rattle.expression.specs.Answers.{fault_means, call_or, param_means, ParamLinked, ParamNext, ParamIs, TildeIs, block_means, BlockIs, OwnIs, HashIs, part_means, PartLinked, parts_read, parts_at, FirstPart, PartIs, block_then, tilde_then, expression_means, ExpressionNext, ExpressionLinked, ExpressionIs, PartsLinked, PartsIs}
 use Rattle.expression.specs.declared.parameter.Parameter.{Parameter}
@@ -279,7 +279,7 @@ readable : {A B : Type 0} (f : A → B) (o p : Read A) {b : B} {r : List Span} �
 readable f (done a s) p again e = record { value = a; rest = s; reads = again a s refl }
 readable f (failed x) p again e = let z : ◌≡◌ {A = ℕ} 0 1 = cc in absurd (omega arith)
 
-no_whole : (left : Bool) (n : Param) (f : spec-read.Fault) (o : Read (List spec.Part)) → mapped (last_block no_block_param) o ≡ failed f
+no_whole : (left : Bool) (n : Param) (f : spec_read.Fault) (o : Read (List spec.Part)) → mapped (last_block no_block_param) o ≡ failed f
     → mapped (expression_of left n) o ≡ failed f
 no_whole left n f (done xs r) h = cc
 no_whole left n f (failed x) h = cc

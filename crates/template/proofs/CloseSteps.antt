@@ -259,7 +259,7 @@ module _ (text : Bytes) (words : List ℕ) (st st' : List Element) (lv lv' : Lis
           → Mid text words st' lv' (frame_at lv (depth - 1)) (depth - 1) len (count - 1) false x.block l ls
       back here up solo one =
           let under : length ls ≡ depth - 1 = omega (arith, c.deep) in
-          let as-was : Same st st' 1 x.block = λ i u t. but i u (omega (arith, t, up)) (λ z. omega (arith, z, t)) in
+          let as_was : Same st st' 1 x.block = λ i u t. but i u (omega (arith, t, up)) (λ z. omega (arith, z, t)) in
           let m : Level = level c.owner c.elems in
           inr (record {
             here = here;
@@ -270,11 +270,11 @@ module _ (text : Bytes) (words : List ℕ) (st st' : List Element) (lv lv' : Lis
             solo = solo;
             fits =
                 subst (λ (i : ℕ). Filling text words st' lv' (frame_at lv i) (depth - 1) x.block (count - 1) m ls) under (record {
-                  inner = frame_inner text words st st' (frame_at lv (length ls)) x.block m as-was c.outer.0;
+                  inner = frame_inner text words st st' (frame_at lv (length ls)) x.block m as_was c.outer.0;
                   counted = omega (arith, c.counted, one);
                   rooted = c.outer.1;
                   outer = frame_outer text words st st' lv lv' ls (frame_at lv (length ls)).block
-                      (λ i u t. as-was i u (omega (arith, t, inner_low text words st (frame_at lv (length ls)) x.block m c.outer.0))) (λ i u. agree i (omega (arith, u, c.deep))) c.outer.2;
+                      (λ i u t. as_was i u (omega (arith, t, inner_low text words st (frame_at lv (length ls)) x.block m c.outer.0))) (λ i u. agree i (omega (arith, u, c.deep))) c.outer.2;
                   deep = sym under;
                 });
             filling = refl;

@@ -428,7 +428,7 @@ module _ (text : Bytes) (words : List ℕ) (st : List Element) where
         unfolding stack_size
         push b r x k z y f size h1 h2 h3 h4 c e d =
             let v = waits at false in
-            let same-entry : get_or (set ws depth v) (length s.contexts) no_waiting ≡ v =
+            let same_entry : get_or (set ws depth v) (length s.contexts) no_waiting ≡ v =
             ap (λ i. get_or (set ws depth v) i no_waiting) s.deep ∙ get_or-set_same ws depth v no_waiting (omega (arith, s.long, s.low, s.near)) in
             let entry : Waits v (length s.contexts) k z s.hi x r = record {
               inside = omega (arith, s.near);
@@ -453,7 +453,7 @@ module _ (text : Bytes) (words : List ℕ) (st : List Element) where
               near = omega (arith, s.near);
               contexts = context z s.hi x r ∷ s.contexts;
               stack = (
-                subst (λ u. Waits u (length s.contexts) k z s.hi x r) (sym same-entry) entry,
+                subst (λ u. Waits u (length s.contexts) k z s.hi x r) (sym same_entry) entry,
                 stack_same ws (set ws depth v) s.hi s.contexts (λ i j. get_or-set_other ws depth i v no_waiting (λ t. omega (arith, s.deep))) s.stack,
               );
               deep = omega (arith, s.deep);
@@ -522,7 +522,7 @@ module _ (text : Bytes) (words : List ℕ) (st : List Element) where
                 let v = waits u.block true in
                 let a = subst (λ i. Waits (get_or ws i no_waiting) (length cs) s.hi z hi x r) i t.0 in
                 let y = elsed u.inverse (element_at st u.block) s.hi z x f a.elses in
-                let same-entry : get_or (set ws (depth - 1) v) (length cs) no_waiting ≡ v =
+                let same_entry : get_or (set ws (depth - 1) v) (length cs) no_waiting ≡ v =
                 ap (λ i. get_or (set ws (depth - 1) v) i no_waiting) i ∙ get_or-set_same ws (depth - 1) v no_waiting (omega (arith, s.long, a.deep, a.order, a.below)) in
                 let entry : Waits v (length cs) z z hi no_else r = record {
                   inside = a.inside;
@@ -554,7 +554,7 @@ module _ (text : Bytes) (words : List ℕ) (st : List Element) where
                   near = a.below;
                   contexts = context z hi no_else r ∷ cs;
                   stack = (
-                    subst (λ u. Waits u (length cs) z z hi no_else r) (sym same-entry) entry,
+                    subst (λ u. Waits u (length cs) z z hi no_else r) (sym same_entry) entry,
                     stack_same ws (set ws (depth - 1) v) hi cs (λ j k. get_or-set_other ws (depth - 1) j v no_waiting (λ t. omega arith)) t.1,
                   );
                   deep = omega arith;

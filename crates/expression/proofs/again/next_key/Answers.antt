@@ -11,30 +11,30 @@ loop-x-init c =
 
 pub loop-x-smaller : goal.loop-x-smaller
 loop-x-smaller c =
-    let next-part = c.next_part-p in
-    let f = (cases.part_found c.in-Part.is next-part.ensures) in omega arith
+    let next_part = c.next_part-p in
+    let f = (cases.part_found c.in-Part.is next_part.ensures) in omega arith
 
 pub loop-x-preserved : goal.loop-x-preserved
 loop-x-preserved c =
     let l = c.loop-x in
-    let next-part = c.next_part-p in
-    laws.seeking_on l.invariant (cases.part_found c.in-Part.is next-part.ensures) c.least_then-least.ensures
+    let next_part = c.next_part-p in
+    laws.seeking_on l.invariant (cases.part_found c.in-Part.is next_part.ensures) c.least_then-least.ensures
 
 pub returns-in_default : goal.returns-in_default
 returns-in_default c =
     let l = c.loop-x in
-    let next-part = c.next_part-p in
-    laws.seeking_none l.invariant (cases.part_none c.in-End.is next-part.ensures)
+    let next_part = c.next_part-p in
+    laws.seeking_none l.invariant (cases.part_none c.in-End.is next_part.ensures)
     c.in_default.is
 
 pub returns-in-End : goal.returns-in-End
 returns-in-End c =
     let l = c.loop-x in
-    let next-part = c.next_part-p in
-    laws.seeking_found l.invariant (cases.part_none c.in-End.is next-part.ensures) c.in-Hash.is
+    let next_part = c.next_part-p in
+    laws.seeking_found l.invariant (cases.part_none c.in-End.is next_part.ensures) c.in-Hash.is
 
 pub returns-in-Failed : goal.returns-in-Failed
 returns-in-Failed c =
     let l = c.loop-x in
-    let next-part = c.next_part-p in
-    laws.seeking_failed l.invariant (cases.part_failed c.in-Failed.is next-part.ensures)
+    let next_part = c.next_part-p in
+    laws.seeking_failed l.invariant (cases.part_failed c.in-Failed.is next_part.ensures)

@@ -11,21 +11,21 @@ loop-x-init c = record { same = refl; onward = omega arith }
 pub returns-in-Param : goal.returns-in-Param
 returns-in-Param c =
     let l = c.loop-x in
-    let next-part = c.next_part-p in
+    let next_part = c.next_part-p in
     let param_of = c.param_of-given in
-    laws.passing_found l.invariant (cases.part_found c.in-Part.is next-part.ensures) param_of.ensures
+    laws.passing_found l.invariant (cases.part_found c.in-Part.is next_part.ensures) param_of.ensures
     c.in-Param.is
 
 pub loop-x-smaller : goal.loop-x-smaller
 loop-x-smaller c =
-    let next-part = c.next_part-p in
-    let f = (cases.part_found c.in-Part.is next-part.ensures) in omega arith
+    let next_part = c.next_part-p in
+    let f = (cases.part_found c.in-Part.is next_part.ensures) in omega arith
 
 pub loop-x-preserved : goal.loop-x-preserved
 loop-x-preserved c =
     let l = c.loop-x in
-    let next-part = c.next_part-p in
-    laws.passing_on l.invariant (cases.part_found c.in-Part.is next-part.ensures) c.param_of-given.ensures
+    let next_part = c.next_part-p in
+    laws.passing_on l.invariant (cases.part_found c.in-Part.is next_part.ensures) c.param_of-given.ensures
     c.in_default.is
 
 pub returns-in-End : goal.returns-in-End
@@ -36,5 +36,5 @@ returns-in-End c =
 pub returns-in-Failed : goal.returns-in-Failed
 returns-in-Failed c =
     let l = c.loop-x in
-    let next-part = c.next_part-p in
-    laws.passing_failed l.invariant (cases.part_failed c.in-Failed.is next-part.ensures)
+    let next_part = c.next_part-p in
+    laws.passing_failed l.invariant (cases.part_failed c.in-Failed.is next_part.ensures)

@@ -12,50 +12,50 @@ returns-in_default c =
 
 pub overflow_add-a : goal.overflow_add-a
 overflow_add-a c =
-    let next-span = c.next_span-n in
+    let next_span = c.next_span-n in
     let good = c.well_formed in
-    let w = (json.next_found c.in-Span.is next-span.ensures) in omega (arith, good)
+    let w = (json.next_found c.in-Span.is next_span.ensures) in omega (arith, good)
 
 pub overflow_add-result : goal.overflow_add-result
 overflow_add-result c =
-    let next-span = c.next_span-n in
+    let next_span = c.next_span-n in
     let good = c.well_formed in
-    let w = (json.next_found c.in-Span.is next-span.ensures) in omega (arith, good)
+    let w = (json.next_found c.in-Span.is next_span.ensures) in omega (arith, good)
 
 pub returns-in_default-m : goal.returns-in_default-m
 returns-in_default-m c =
     let a = c.args in
-    let next-span = c.next_span-n in
-    let next-span2 = c.next_span-m in
-    laws.block_single a.limit (json.next_found c.in-Span.is next-span.ensures)
-    (json.next_none c.in_default-m.is next-span2.ensures)
+    let next_span = c.next_span-n in
+    let next_span2 = c.next_span-m in
+    laws.block_single a.limit (json.next_found c.in-Span.is next_span.ensures)
+    (json.next_none c.in_default-m.is next_span2.ensures)
 
 pub overflow_add-result-then-limit-b : goal.overflow_add-result-then-limit-b
 overflow_add-result-then-limit-b c =
-    let next-span = c.next_span-n in
+    let next_span = c.next_span-n in
     let good = c.well_formed in
-    let w = (json.next_found c.in-Span.is next-span.ensures) in omega (arith, good)
+    let w = (json.next_found c.in-Span.is next_span.ensures) in omega (arith, good)
 
 pub returns-then-limit-b : goal.returns-then-limit-b
 returns-then-limit-b c =
     let a = c.args in
-    let next-span = c.next_span-n in
-    let next-span2 = c.next_span-m in
-    laws.block_past a.limit (json.next_found c.in-Span.is next-span.ensures)
-    (json.next_found c.in-Span-m.is next-span2.ensures) c.if-limit-b.true
+    let next_span = c.next_span-n in
+    let next_span2 = c.next_span-m in
+    laws.block_past a.limit (json.next_found c.in-Span.is next_span.ensures)
+    (json.next_found c.in-Span-m.is next_span2.ensures) c.if-limit-b.true
 
 pub overflow_add-result-2 : goal.overflow_add-result-2
 overflow_add-result-2 c =
-    let next-span = c.next_span-n in
-    let next-span2 = c.next_span-m in
+    let next_span = c.next_span-n in
+    let next_span2 = c.next_span-m in
     let good = c.well_formed in
-    let w = (json.next_found c.in-Span.is next-span.ensures) in let v = (json.next_found c.in-Span-m.is next-span2.ensures) in
+    let w = (json.next_found c.in-Span.is next_span.ensures) in let v = (json.next_found c.in-Span-m.is next_span2.ensures) in
     omega (arith, good)
 
 pub returns : goal.returns
 returns c =
     let a = c.args in
-    let next-span = c.next_span-n in
-    let next-span2 = c.next_span-m in
-    laws.block_pair a.limit (json.next_found c.in-Span.is next-span.ensures)
-    (json.next_found c.in-Span-m.is next-span2.ensures) c.if-limit-b.false
+    let next_span = c.next_span-n in
+    let next_span2 = c.next_span-m in
+    laws.block_pair a.limit (json.next_found c.in-Span.is next_span.ensures)
+    (json.next_found c.in-Span-m.is next_span2.ensures) c.if-limit-b.false

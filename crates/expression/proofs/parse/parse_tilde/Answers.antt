@@ -11,16 +11,16 @@ returns-in_default c =
 
 pub overflow_add-result : goal.overflow_add-result
 overflow_add-result c =
-    let next-span = c.next_span-n in
+    let next_span = c.next_span-n in
     let good = c.well_formed in
-    let w = (json.next_found c.in-Span.is next-span.ensures) in omega (arith, good)
+    let w = (json.next_found c.in-Span.is next_span.ensures) in omega (arith, good)
 
 pub returns-then-s-eq34 : goal.returns-then-s-eq34
 returns-then-s-eq34 c =
-    let next-span = c.next_span-n in
-    laws.tilde_left (json.next_found c.in-Span.is next-span.ensures) c.if-s-eq34.true
+    let next_span = c.next_span-n in
+    laws.tilde_left (json.next_found c.in-Span.is next_span.ensures) c.if-s-eq34.true
 
 pub returns : goal.returns
 returns c =
-    let next-span = c.next_span-n in
-    laws.tilde_no (json.next_found c.in-Span.is next-span.ensures) (omega arith)
+    let next_span = c.next_span-n in
+    laws.tilde_no (json.next_found c.in-Span.is next_span.ensures) (omega arith)

@@ -11,17 +11,17 @@ returns-in_default c =
 
 pub overflow_add-s : goal.overflow_add-s
 overflow_add-s c =
-    let next-span = c.next_span-n in
+    let next_span = c.next_span-n in
     let good = c.well_formed in
-    let w = (json.next_found c.in-Span.is next-span.ensures) in omega (arith, good)
+    let w = (json.next_found c.in-Span.is next_span.ensures) in omega (arith, good)
 
 pub returns-then-s-eq28 : goal.returns-then-s-eq28
 returns-then-s-eq28 c =
-    let next-span = c.next_span-n in
-    laws.own_28 (json.next_found c.in-Span.is next-span.ensures) c.next_span.result c.if-s-eq28.true
+    let next_span = c.next_span-n in
+    laws.own_28 (json.next_found c.in-Span.is next_span.ensures) c.next_span.result c.if-s-eq28.true
     c.next_span.ensures
 
 pub returns : goal.returns
 returns c =
-    let next-span = c.next_span-n in
-    laws.own_self (json.next_found c.in-Span.is next-span.ensures) c.if-s-eq28.false
+    let next_span = c.next_span-n in
+    laws.own_self (json.next_found c.in-Span.is next_span.ensures) c.if-s-eq28.false

@@ -17,36 +17,36 @@ pub returns-then-path-s : goal.returns-then-path-s
 returns-then-path-s c =
     let l = c.loop-s in
     let n = c.in-Span in
-    let next-span = c.next_span-n in
-    laws.searching_stop l.invariant (cases.next_found n.is next-span.ensures) c.if-path-s.true
+    let next_span = c.next_span-n in
+    laws.searching_stop l.invariant (cases.next_found n.is next_span.ensures) c.if-path-s.true
 
 pub overflow_add-at : goal.overflow_add-at
 overflow_add-at c =
     let n = c.in-Span in
-    let next-span = c.next_span-n in
-    let w = cases.next_found n.is next-span.ensures in omega arith
+    let next_span = c.next_span-n in
+    let w = cases.next_found n.is next_span.ensures in omega arith
 
 pub returns-in-Segment : goal.returns-in-Segment
 returns-in-Segment c =
     let l = c.loop-s in
     let n = c.in-Span in
-    let next-span = c.next_span-n in
+    let next_span = c.next_span-n in
     let if1 = c.if-path-s in
-    let segment-of = c.segment_of-g in
-    laws.searching_found l.invariant (cases.next_found n.is next-span.ensures) if1.false c.in-Segment.is
-    segment-of.ensures
+    let segment_of = c.segment_of-g in
+    laws.searching_found l.invariant (cases.next_found n.is next_span.ensures) if1.false c.in-Segment.is
+    segment_of.ensures
 
 pub loop-s-smaller : goal.loop-s-smaller
 loop-s-smaller c =
     let n = c.in-Span in
-    let next-span = c.next_span-n in
-    let w = cases.next_found n.is next-span.ensures in omega arith
+    let next_span = c.next_span-n in
+    let w = cases.next_found n.is next_span.ensures in omega arith
 
 pub loop-s-preserved : goal.loop-s-preserved
 loop-s-preserved c =
     let l = c.loop-s in
     let n = c.in-Span in
-    let next-span = c.next_span-n in
+    let next_span = c.next_span-n in
     let if1 = c.if-path-s in
-    laws.searching_on l.invariant (cases.next_found n.is next-span.ensures) if1.false c.in_default-g.is
+    laws.searching_on l.invariant (cases.next_found n.is next_span.ensures) if1.false c.in_default-g.is
     c.segment_of-g.ensures

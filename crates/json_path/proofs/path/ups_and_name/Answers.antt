@@ -36,18 +36,18 @@ returns-in-Here c =
 pub overflow_add-level : goal.overflow_add-level
 overflow_add-level c =
     let n = c.in-Segment in
-    let next-segment = c.next_segment-n in
-    let q = cases.segment_found n.is next-segment.ensures in omega arith
+    let next_segment = c.next_segment-n in
+    let q = cases.segment_found n.is next_segment.ensures in omega arith
 
 pub loop-segment-smaller : goal.loop-segment-smaller
 loop-segment-smaller c =
     let n = c.in-Segment in
-    let next-segment = c.next_segment-n in
-    let q = cases.segment_found n.is next-segment.ensures in omega arith
+    let next_segment = c.next_segment-n in
+    let q = cases.segment_found n.is next_segment.ensures in omega arith
 
 pub loop-segment-preserved : goal.loop-segment-preserved
 loop-segment-preserved c =
     let l = c.loop-segment in
     let n = c.in-Segment in
-    let next-segment = c.next_segment-n in
-    laws.counting_on l.invariant (cases.segment_found n.is next-segment.ensures) c.in-Up.is
+    let next_segment = c.next_segment-n in
+    laws.counting_on l.invariant (cases.segment_found n.is next_segment.ensures) c.in-Up.is

@@ -17,24 +17,24 @@ pub returns-then-limit-s : goal.returns-then-limit-s
 returns-then-limit-s c =
     let l = c.loop-s in
     let n = c.in-Span in
-    let next-span = c.next_span-n in
-    laws.skipping_stop l.invariant (cases.next_found n.is next-span.ensures) c.if-limit-s.true
+    let next_span = c.next_span-n in
+    laws.skipping_stop l.invariant (cases.next_found n.is next_span.ensures) c.if-limit-s.true
 
 pub overflow_add-at : goal.overflow_add-at
 overflow_add-at c =
     let n = c.in-Span in
-    let next-span = c.next_span-n in
-    let w = cases.next_found n.is next-span.ensures in omega arith
+    let next_span = c.next_span-n in
+    let w = cases.next_found n.is next_span.ensures in omega arith
 
 pub loop-s-smaller : goal.loop-s-smaller
 loop-s-smaller c =
     let n = c.in-Span in
-    let next-span = c.next_span-n in
-    let w = cases.next_found n.is next-span.ensures in omega arith
+    let next_span = c.next_span-n in
+    let w = cases.next_found n.is next_span.ensures in omega arith
 
 pub loop-s-preserved : goal.loop-s-preserved
 loop-s-preserved c =
     let l = c.loop-s in
     let n = c.in-Span in
-    let next-span = c.next_span-n in
-    laws.skipping_on l.invariant (cases.next_found n.is next-span.ensures) c.if-limit-s.false
+    let next_span = c.next_span-n in
+    laws.skipping_on l.invariant (cases.next_found n.is next_span.ensures) c.if-limit-s.false

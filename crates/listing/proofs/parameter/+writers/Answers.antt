@@ -7,7 +7,7 @@ use Rattle.expression.proofs.Lists.{params_read_lem, keys_read_lem}
 use Rattle.expression.proofs.Cases as cases
 use Rattle.listing.proofs.Size.{param_size}
 use Rattle.listing.proofs.ParamWrites as params
-use Rattle.listing.proofs.HeldKeys as held-keys
+use Rattle.listing.proofs.HeldKeys as held_keys
 use Rattle.listing.proofs.HeldWrites as held_writes
 use Rattle.listing.proofs.PathWrites as paths
 use Rattle.listing.proofs.Writes as writes
@@ -30,39 +30,39 @@ write_call-write_keys-requires t c =
 
 pub write_call-shape_of-out : goal.write_call-shape_of-out
 write_call-shape_of-out t c =
-    let write-params = c.write_params-q in
-    let write-param = c.write_param-p in
+    let write_params = c.write_params-q in
+    let write_param = c.write_param-p in
     writes.written_length c.write_keys.ensures
-    ∙ writes.written_length write-params.ensures
-    ∙ writes.written_length write-param.ensures
+    ∙ writes.written_length write_params.ensures
+    ∙ writes.written_length write_param.ensures
 
 pub write_call-returns : goal.write_call-returns
 write_call-returns t c =
     let good = c.well_formed in
-    let write-param = c.write_param-p in
-    let write-params = c.write_params-q in
+    let write_param = c.write_param-p in
+    let write_params = c.write_params-q in
     rw (params.call_bytes_lem _ _ _)
-    (paths.three (omega (arith, good.0.0)) write-param.ensures write-params.ensures c.write_keys.ensures)
+    (paths.three (omega (arith, good.0.0)) write_param.ensures write_params.ensures c.write_keys.ensures)
 
 pub write_hash-write_param-q-requires : goal.write_hash-write_param-q-requires
 write_hash-write_param-q-requires t c = (omega (arith, c.decreases), tt)
 
 pub write_hash-shape_of-out : goal.write_hash-shape_of-out
 write_hash-shape_of-out t c =
-    let write-param = c.write_param-q in
-    let write-key = c.write_key-p in
+    let write_param = c.write_param-q in
+    let write_key = c.write_key-p in
     writes.written_length c.put_bytes.ensures
-    ∙ writes.written_length write-param.ensures
-    ∙ writes.written_length write-key.ensures
+    ∙ writes.written_length write_param.ensures
+    ∙ writes.written_length write_key.ensures
 
 pub write_hash-returns : goal.write_hash-returns
 write_hash-returns t c =
     let good = c.well_formed in
-    let write-key = c.write_key-p in
-    let write-param = c.write_param-q in
+    let write_key = c.write_key-p in
+    let write_param = c.write_param-q in
     rw (params.hash_bytes _ _)
-    (writes.written_then (omega (arith, good.0.0)) write-key.ensures
-    (writes.written_then (omega (arith, good.0.0, writes.written_length write-key.ensures)) write-param.ensures c.put_bytes.ensures))
+    (writes.written_then (omega (arith, good.0.0)) write_key.ensures
+    (writes.written_then (omega (arith, good.0.0, writes.written_length write_key.ensures)) write_param.ensures c.put_bytes.ensures))
 
 pub write_held-loop-i-init : goal.write_held-loop-i-init
 write_held-loop-i-init t c =
@@ -115,11 +115,11 @@ write_keys-returns-in_default t c = c.write_many_keys.ensures
 
 pub write_keys-slice_bounds-write_held-end : goal.write_keys-slice_bounds-write_held-end
 write_keys-slice_bounds-write_held-end t c =
-    let k = held-keys.keys_held c.in-Keys.is c.hold_keys-h.ensures in omega (arith, c.hold_keys-h.auto.held)
+    let k = held_keys.keys_held c.in-Keys.is c.hold_keys-h.ensures in omega (arith, c.hold_keys-h.auto.held)
 
 pub write_keys-write_held-requires : goal.write_keys-write_held-requires
 write_keys-write_held-requires t c =
-    let k = held-keys.keys_held c.in-Keys.is c.hold_keys-h.ensures in
+    let k = held_keys.keys_held c.in-Keys.is c.hold_keys-h.ensures in
     (omega (arith, c.decreases, held_writes.held_size k), held_writes.all_read k)
 
 pub write_keys-shape_of-out : goal.write_keys-shape_of-out
@@ -127,7 +127,7 @@ write_keys-shape_of-out t c = writes.written_length c.write_held.ensures
 
 pub write_keys-returns : goal.write_keys-returns
 write_keys-returns t c =
-    held_writes.held_written (held-keys.keys_held c.in-Keys.is c.hold_keys-h.ensures) c.write_held.ensures
+    held_writes.held_written (held_keys.keys_held c.in-Keys.is c.hold_keys-h.ensures) c.write_held.ensures
 
 pub write_least_keys-loop-h-init : goal.write_least_keys-loop-h-init
 write_least_keys-loop-h-init t c =
@@ -178,11 +178,11 @@ write_many_keys-returns-in_default t c = c.write_least_keys.ensures
 
 pub write_many_keys-slice_bounds-write_held-end : goal.write_many_keys-slice_bounds-write_held-end
 write_many_keys-slice_bounds-write_held-end t c =
-    let k = held-keys.keys_held c.in-Keys.is c.hold_keys-h.ensures in omega (arith, c.hold_keys-h.auto.held)
+    let k = held_keys.keys_held c.in-Keys.is c.hold_keys-h.ensures in omega (arith, c.hold_keys-h.auto.held)
 
 pub write_many_keys-write_held-requires : goal.write_many_keys-write_held-requires
 write_many_keys-write_held-requires t c =
-    let k = held-keys.keys_held c.in-Keys.is c.hold_keys-h.ensures in
+    let k = held_keys.keys_held c.in-Keys.is c.hold_keys-h.ensures in
     (omega (arith, c.decreases, held_writes.held_size k), held_writes.all_read k)
 
 pub write_many_keys-shape_of-out : goal.write_many_keys-shape_of-out
@@ -190,7 +190,7 @@ write_many_keys-shape_of-out t c = writes.written_length c.write_held.ensures
 
 pub write_many_keys-returns : goal.write_many_keys-returns
 write_many_keys-returns t c =
-    held_writes.held_written (held-keys.keys_held c.in-Keys.is c.hold_keys-h.ensures) c.write_held.ensures
+    held_writes.held_written (held_keys.keys_held c.in-Keys.is c.hold_keys-h.ensures) c.write_held.ensures
 
 pub write_param-write_subexpression-requires : goal.write_param-write_subexpression-requires
 write_param-write_subexpression-requires t c =
@@ -291,17 +291,17 @@ write_subexpression-write_call-q-requires t c =
 
 pub write_subexpression-shape_of-out : goal.write_subexpression-shape_of-out
 write_subexpression-shape_of-out t c =
-    let write-call = c.write_call-q in
-    let put-bytes = c.put_bytes-p in
+    let write_call = c.write_call-q in
+    let put_bytes = c.put_bytes-p in
     writes.written_length c.put_bytes-2.ensures
-    ∙ writes.written_length write-call.ensures
-    ∙ writes.written_length put-bytes.ensures
+    ∙ writes.written_length write_call.ensures
+    ∙ writes.written_length put_bytes.ensures
 
 pub write_subexpression-returns : goal.write_subexpression-returns
 write_subexpression-returns t c =
     let enter = c.enter-r in
     let good = c.well_formed in
-    let put-bytes = c.put_bytes-p in
-    let write-call = c.write_call-q in
-    params.sub_written (cases.entered c.in-Done.is enter.ensures) (omega (arith, good.0.0)) put-bytes.ensures
-    write-call.ensures c.put_bytes-2.ensures
+    let put_bytes = c.put_bytes-p in
+    let write_call = c.write_call-q in
+    params.sub_written (cases.entered c.in-Done.is enter.ensures) (omega (arith, good.0.0)) put_bytes.ensures
+    write_call.ensures c.put_bytes-2.ensures

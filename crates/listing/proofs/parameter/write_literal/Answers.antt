@@ -8,16 +8,16 @@ use Rattle.listing.proofs.parameter.write_literal.Goals as goal
 
 pub shape_of-out : goal.shape_of-out
 shape_of-out c =
-    let write-Kept = c.write_kept-q in
-    let put-bytes = c.put_bytes-p in
+    let write_kept = c.write_kept-q in
+    let put_bytes = c.put_bytes-p in
     writes.written_length c.put_bytes.ensures
-    ∙ writes.written_length write-Kept.ensures
-    ∙ writes.written_length put-bytes.ensures
+    ∙ writes.written_length write_kept.ensures
+    ∙ writes.written_length put_bytes.ensures
 
 pub returns : goal.returns
 returns c =
     let good = c.well_formed in
-    let put-bytes = c.put_bytes-p in
-    let write-Kept = c.write_kept-q in
+    let put_bytes = c.put_bytes-p in
+    let write_kept = c.write_kept-q in
     rw (params.literal_bytes _)
-    (paths.three (omega (arith, good.0.0)) put-bytes.ensures write-Kept.ensures c.put_bytes.ensures)
+    (paths.three (omega (arith, good.0.0)) put_bytes.ensures write_kept.ensures c.put_bytes.ensures)

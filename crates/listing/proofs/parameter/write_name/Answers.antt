@@ -8,16 +8,16 @@ use Rattle.listing.proofs.parameter.write_name.Goals as goal
 
 pub shape_of-out : goal.shape_of-out
 shape_of-out c =
-    let write-part = c.write_part-q in
-    let put-bytes = c.put_bytes-p in
+    let write_part = c.write_part-q in
+    let put_bytes = c.put_bytes-p in
     writes.written_length c.put_bytes.ensures
-    ∙ writes.written_length write-part.ensures
-    ∙ writes.written_length put-bytes.ensures
+    ∙ writes.written_length write_part.ensures
+    ∙ writes.written_length put_bytes.ensures
 
 pub returns : goal.returns
 returns c =
     let good = c.well_formed in
-    let put-bytes = c.put_bytes-p in
-    let write-part = c.write_part-q in
+    let put_bytes = c.put_bytes-p in
+    let write_part = c.write_part-q in
     rw (params.name_bytes_lem _)
-    (paths.three (omega (arith, good.0.0)) put-bytes.ensures write-part.ensures c.put_bytes.ensures)
+    (paths.three (omega (arith, good.0.0)) put_bytes.ensures write_part.ensures c.put_bytes.ensures)

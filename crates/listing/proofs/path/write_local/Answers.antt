@@ -7,29 +7,29 @@ use Rattle.listing.proofs.path.write_local.Goals as goal
 
 pub shape_of-out : goal.shape_of-out
 shape_of-out c =
-    let write-part2 = c.write_part-v in
-    let put-bytes3 = c.put_bytes-u in
-    let write-part = c.write_part-t in
-    let put-bytes2 = c.put_bytes-s in
-    let write-decimal = c.write_decimal-q in
-    let put-bytes = c.put_bytes-p in
+    let write_part2 = c.write_part-v in
+    let put_bytes3 = c.put_bytes-u in
+    let write_part = c.write_part-t in
+    let put_bytes2 = c.put_bytes-s in
+    let write_decimal = c.write_decimal-q in
+    let put_bytes = c.put_bytes-p in
     writes.written_length c.put_bytes.ensures
-    ∙ writes.written_length write-part2.ensures
-    ∙ writes.written_length put-bytes3.ensures
-    ∙ writes.written_length write-part.ensures
-    ∙ writes.written_length put-bytes2.ensures
-    ∙ writes.written_length write-decimal.ensures
-    ∙ writes.written_length put-bytes.ensures
+    ∙ writes.written_length write_part2.ensures
+    ∙ writes.written_length put_bytes3.ensures
+    ∙ writes.written_length write_part.ensures
+    ∙ writes.written_length put_bytes2.ensures
+    ∙ writes.written_length write_decimal.ensures
+    ∙ writes.written_length put_bytes.ensures
 
 pub returns : goal.returns
 returns c =
     let good = c.well_formed in
-    let put-bytes = c.put_bytes-p in
-    let write-decimal = c.write_decimal-q in
-    let put-bytes2 = c.put_bytes-s in
-    let write-part = c.write_part-t in
-    let put-bytes3 = c.put_bytes-u in
-    let write-part2 = c.write_part-v in
+    let put_bytes = c.put_bytes-p in
+    let write_decimal = c.write_decimal-q in
+    let put_bytes2 = c.put_bytes-s in
+    let write_part = c.write_part-t in
+    let put_bytes3 = c.put_bytes-u in
+    let write_part2 = c.write_part-v in
     rw (paths.local_bytes _ _ _)
-    (paths.seven (omega (arith, good.0.0)) put-bytes.ensures write-decimal.ensures put-bytes2.ensures
-    write-part.ensures put-bytes3.ensures write-part2.ensures c.put_bytes.ensures)
+    (paths.seven (omega (arith, good.0.0)) put_bytes.ensures write_decimal.ensures put_bytes2.ensures
+    write_part.ensures put_bytes3.ensures write_part2.ensures c.put_bytes.ensures)

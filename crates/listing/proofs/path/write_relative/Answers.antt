@@ -7,23 +7,23 @@ use Rattle.listing.proofs.path.write_relative.Goals as goal
 
 pub shape_of-out : goal.shape_of-out
 shape_of-out c =
-    let write-segments = c.write_segments-t in
-    let put-bytes2 = c.put_bytes-s in
-    let write-part = c.write_part-q in
-    let put-bytes = c.put_bytes-p in
+    let write_segments = c.write_segments-t in
+    let put_bytes2 = c.put_bytes-s in
+    let write_part = c.write_part-q in
+    let put_bytes = c.put_bytes-p in
     writes.written_length c.put_bytes.ensures
-    ∙ writes.written_length write-segments.ensures
-    ∙ writes.written_length put-bytes2.ensures
-    ∙ writes.written_length write-part.ensures
-    ∙ writes.written_length put-bytes.ensures
+    ∙ writes.written_length write_segments.ensures
+    ∙ writes.written_length put_bytes2.ensures
+    ∙ writes.written_length write_part.ensures
+    ∙ writes.written_length put_bytes.ensures
 
 pub returns : goal.returns
 returns c =
     let good = c.well_formed in
-    let put-bytes = c.put_bytes-p in
-    let write-part = c.write_part-q in
-    let put-bytes2 = c.put_bytes-s in
-    let write-segments = c.write_segments-t in
+    let put_bytes = c.put_bytes-p in
+    let write_part = c.write_part-q in
+    let put_bytes2 = c.put_bytes-s in
+    let write_segments = c.write_segments-t in
     rw (paths.path_bytes _ _)
-    (paths.five (omega (arith, good.0.0)) put-bytes.ensures write-part.ensures put-bytes2.ensures
-    write-segments.ensures c.put_bytes.ensures)
+    (paths.five (omega (arith, good.0.0)) put_bytes.ensures write_part.ensures put_bytes2.ensures
+    write_segments.ensures c.put_bytes.ensures)

@@ -35,18 +35,18 @@ returns-in-Up c =
 
 pub shape_of-out-in-Named : goal.shape_of-out-in-Named
 shape_of-out-in-Named c =
-    let write-part = c.write_part-q in
-    let put-bytes4 = c.put_bytes-p in
+    let write_part = c.write_part-q in
+    let put_bytes4 = c.put_bytes-p in
     writes.written_length c.put_bytes-in-Named.ensures
-    ∙ writes.written_length write-part.ensures
-    ∙ writes.written_length put-bytes4.ensures
+    ∙ writes.written_length write_part.ensures
+    ∙ writes.written_length put_bytes4.ensures
 
 pub returns-in-Named : goal.returns-in-Named
 returns-in-Named c =
     let a = c.args in
     let good = c.well_formed in
-    let put-bytes4 = c.put_bytes-p in
-    let write-part = c.write_part-q in
+    let put_bytes4 = c.put_bytes-p in
+    let write_part = c.write_part-q in
     paths.segment_is a.text.now a.segment _ c.in-Named.is
     (rw (paths.seg_bytes _)
-    (paths.three (omega (arith, good.0.0)) put-bytes4.ensures write-part.ensures c.put_bytes-in-Named.ensures))
+    (paths.three (omega (arith, good.0.0)) put_bytes4.ensures write_part.ensures c.put_bytes-in-Named.ensures))

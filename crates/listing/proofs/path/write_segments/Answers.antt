@@ -17,12 +17,12 @@ returns-in_default c =
 
 pub loop-segment-smaller : goal.loop-segment-smaller
 loop-segment-smaller c =
-    let next-segment = c.next_segment-n in
-    let w = (cases.segment_found c.in-Segment.is next-segment.ensures) in omega arith
+    let next_segment = c.next_segment-n in
+    let w = (cases.segment_found c.in-Segment.is next_segment.ensures) in omega arith
 
 pub loop-segment-preserved : goal.loop-segment-preserved
 loop-segment-preserved c =
     let l = c.loop-segment in
-    let next-segment = c.next_segment-n in
-    paths.onward_next (omega arith) l.invariant (cases.segment_found c.in-Segment.is next-segment.ensures)
+    let next_segment = c.next_segment-n in
+    paths.onward_next (omega arith) l.invariant (cases.segment_found c.in-Segment.is next_segment.ensures)
     c.write_segment-p.ensures

@@ -21,21 +21,21 @@ returns-in_default c =
     let good = c.well_formed in
     let put = c.put-p in
     let l = c.loop-b in
-    let next-quoted = c.next_quoted-n in
+    let next_quoted = c.next_quoted-n in
     requotes.requoted_done a.inner.now (omega (arith, good.0.0)) put.ensures
-    (requotes.onward_end l.invariant c.in_default.is next-quoted.ensures) c.put.ensures
+    (requotes.onward_end l.invariant c.in_default.is next_quoted.ensures) c.put.ensures
 
 pub loop-b-smaller : goal.loop-b-smaller
 loop-b-smaller c =
     let l = c.loop-b in
-    let next-quoted = c.next_quoted-n in
-    omega (arith, ap length (requotes.left_byte l.invariant c.in-Byte.is next-quoted.ensures))
+    let next_quoted = c.next_quoted-n in
+    omega (arith, ap length (requotes.left_byte l.invariant c.in-Byte.is next_quoted.ensures))
 
 pub loop-b-preserved : goal.loop-b-preserved
 loop-b-preserved c =
     let l = c.loop-b in
     let good = c.well_formed in
     let put = c.put-p in
-    let next-quoted = c.next_quoted-n in
+    let next_quoted = c.next_quoted-n in
     requotes.onward_next l.invariant (omega (arith, good.0.0, writes.written_length put.ensures))
-    (requotes.left_byte l.invariant c.in-Byte.is next-quoted.ensures) c.put_escaped-p.ensures
+    (requotes.left_byte l.invariant c.in-Byte.is next_quoted.ensures) c.put_escaped-p.ensures

@@ -6,15 +6,15 @@ use Rattle.listing.proofs.write.write_quoted.Goals as goal
 
 pub shape_of-out : goal.shape_of-out
 shape_of-out c =
-    let write-escaped = c.write_escaped-q in
+    let write_escaped = c.write_escaped-q in
     let put = c.put-p in
     writes.written_length c.put.ensures
-    ∙ writes.written_length write-escaped.ensures
+    ∙ writes.written_length write_escaped.ensures
     ∙ writes.written_length put.ensures
 
 pub returns : goal.returns
 returns c =
     let a = c.args in
-    let write-escaped = c.write_escaped-q in
+    let write_escaped = c.write_escaped-q in
     let put = c.put-p in
-    writes.quoted_done a.text.now (omega arith) put.ensures write-escaped.ensures c.put.ensures
+    writes.quoted_done a.text.now (omega arith) put.ensures write_escaped.ensures c.put.ensures

@@ -37,10 +37,10 @@ within-requires-then-object c =
 
 pub returns-then-object : goal.returns-then-object
 returns-then-object c =
-    let mode-act = c.mode_act-act in
+    let mode_act = c.mode_act-act in
     let top_of = c.top_of-top in
     let a = c.args in
-    state.fed_push mode-act.ensures top_of.ensures c.in-Push.is c.within-then-object.ensures
+    state.fed_push mode_act.ensures top_of.ensures c.in-Push.is c.within-then-object.ensures
     (eq-eqb ((a.state.bits * 2 + 1) % 2) 1 (omega arith) ∙ sym c.if-object.true) (omega arith)
 
 pub overflow_add-depth-in-Push : goal.overflow_add-depth-in-Push
@@ -67,9 +67,9 @@ within-requires-then-depth-eq0 c =
 
 pub returns-then-depth-eq0 : goal.returns-then-depth-eq0
 returns-then-depth-eq0 c =
-    let mode-act = c.mode_act-act in
+    let mode_act = c.mode_act-act in
     let top_of = c.top_of-top in
-    state.fed_pop_none mode-act.ensures top_of.ensures c.in-Pop.is c.within-then-depth-eq0.ensures c.if-depth-eq0.true
+    state.fed_pop_none mode_act.ensures top_of.ensures c.in-Pop.is c.within-then-depth-eq0.ensures c.if-depth-eq0.true
 
 pub within-requires-in-Pop : goal.within-requires-in-Pop
 within-requires-in-Pop c =
@@ -79,23 +79,23 @@ within-requires-in-Pop c =
 
 pub returns-in-Stay : goal.returns-in-Stay
 returns-in-Stay c =
-    let mode-act = c.mode_act-act in
+    let mode_act = c.mode_act-act in
     let top_of = c.top_of-top in
-    state.fed_stay mode-act.ensures top_of.ensures c.in-Stay.is c.within.ensures
+    state.fed_stay mode_act.ensures top_of.ensures c.in-Stay.is c.within.ensures
 
 pub returns-else-object : goal.returns-else-object
 returns-else-object c =
-    let mode-act = c.mode_act-act in
+    let mode_act = c.mode_act-act in
     let top_of = c.top_of-top in
     let a = c.args in
-    state.fed_push mode-act.ensures top_of.ensures c.in-Push.is c.within-in-Push.ensures
+    state.fed_push mode_act.ensures top_of.ensures c.in-Push.is c.within-in-Push.ensures
     (ne_eqb ((a.state.bits * 2) % 2) 1 (λ q. omega arith) ∙ sym c.if-object.false) (omega arith)
 
 pub returns-else-depth-eq0 : goal.returns-else-depth-eq0
 returns-else-depth-eq0 c =
-    let mode-act = c.mode_act-act in
+    let mode_act = c.mode_act-act in
     let top_of = c.top_of-top in
-    state.fed_pop mode-act.ensures top_of.ensures c.in-Pop.is c.within-in-Pop.ensures c.if-depth-eq0.false
+    state.fed_pop mode_act.ensures top_of.ensures c.in-Pop.is c.within-in-Pop.ensures c.if-depth-eq0.false
 
 pub returns-in-Invalid : goal.returns-in-Invalid
 returns-in-Invalid c =

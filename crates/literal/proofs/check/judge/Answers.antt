@@ -16,10 +16,10 @@ returns-in_default c =
     let a = c.args in
     let l = c.loop-c in
     let there = c.past_plain-there in
-    let next-byte = c.next_byte-byte in
+    let next_byte = c.next_byte-byte in
     let e = plain.past_runs a.quoted a.text.now l.invariant.0 l.invariant.1 there.ensures in
     c.finish.ensures
-    ∙ sym (quote.byte_end a.quoted a.text.now there.result l.state e next-byte.ensures c.in_default.is)
+    ∙ sym (quote.byte_end a.quoted a.text.now there.result l.state e next_byte.ensures c.in_default.is)
 
 pub feed-fed-requires : goal.feed-fed-requires
 feed-fed-requires c = c.loop-c.invariant.1
@@ -29,10 +29,10 @@ returns-in-Invalid c =
     let a = c.args in
     let l = c.loop-c in
     let there = c.past_plain-there in
-    let next-byte = c.next_byte-byte in
+    let next_byte = c.next_byte-byte in
     let e = plain.past_runs a.quoted a.text.now l.invariant.0 l.invariant.1 there.ensures in
     sym
-    (quote.byte_taken a.quoted a.text.now there.result e next-byte.ensures c.in-Byte.is
+    (quote.byte_taken a.quoted a.text.now there.result e next_byte.ensures c.in-Byte.is
     c.feed-fed.ensures c.in-Invalid.is)
 
 pub returns-in-Over : goal.returns-in-Over
@@ -40,18 +40,18 @@ returns-in-Over c =
     let a = c.args in
     let l = c.loop-c in
     let there = c.past_plain-there in
-    let next-byte = c.next_byte-byte in
+    let next_byte = c.next_byte-byte in
     let e = plain.past_runs a.quoted a.text.now l.invariant.0 l.invariant.1 there.ensures in
     sym
-    (quote.byte_taken a.quoted a.text.now there.result e next-byte.ensures c.in-Byte.is
+    (quote.byte_taken a.quoted a.text.now there.result e next_byte.ensures c.in-Byte.is
     c.feed-fed.ensures c.in-Over.is)
 
 pub loop-c-smaller : goal.loop-c-smaller
 loop-c-smaller c =
     let a = c.args in
     let there = c.past_plain-there in
-    let next-byte = c.next_byte-byte in
-    let e = ap length (quote.byte_left a.quoted a.text.now there.result next-byte.ensures c.in-Byte.is) in
+    let next_byte = c.next_byte-byte in
+    let e = ap length (quote.byte_left a.quoted a.text.now there.result next_byte.ensures c.in-Byte.is) in
     omega (arith, there.ensures.fewer a.quoted)
 
 pub loop-c-preserved : goal.loop-c-preserved
@@ -59,7 +59,7 @@ loop-c-preserved c =
     let a = c.args in
     let l = c.loop-c in
     let there = c.past_plain-there in
-    let next-byte = c.next_byte-byte in
+    let next_byte = c.next_byte-byte in
     let e = plain.past_runs a.quoted a.text.now l.invariant.0 l.invariant.1 there.ensures in
     let x = c.feed-fed.ensures in let y = c.in-On.is in
-    (quote.byte_taken a.quoted a.text.now there.result e next-byte.ensures c.in-Byte.is x y, state.fed_room x y)
+    (quote.byte_taken a.quoted a.text.now there.result e next_byte.ensures c.in-Byte.is x y, state.fed_room x y)

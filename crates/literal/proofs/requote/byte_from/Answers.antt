@@ -21,12 +21,12 @@ pub returns-then-c-eq34 : goal.returns-then-c-eq34
 returns-then-c-eq34 c =
     let a = c.args in
     let if1 = c.if-inner-i in
-    let single-at = c.single_at in
-    quote.from_double a.inner.now a.i if1.false (sym single-at.ensures ∙ c.if-single_at.false) c.if-c-eq34.true
+    let single_at = c.single_at in
+    quote.from_double a.inner.now a.i if1.false (sym single_at.ensures ∙ c.if-single_at.false) c.if-c-eq34.true
 
 pub returns : goal.returns
 returns c =
     let a = c.args in
     let if1 = c.if-inner-i in
-    let single-at = c.single_at in
-    quote.from_other a.inner.now a.i if1.false (sym single-at.ensures ∙ c.if-single_at.false) c.if-c-eq34.false
+    let single_at = c.single_at in
+    quote.from_other a.inner.now a.i if1.false (sym single_at.ensures ∙ c.if-single_at.false) c.if-c-eq34.false

@@ -7,14 +7,14 @@ use Rattle.literal.specs.declared.requote.Quoted.{Quoted}
 use Rattle.literal.specs.declared.requote.Quoted.TheVariants.{Byte, End}
 use Rattle.literal.proofs.requote.next_byte.Goals as goal
 
-means-quoted : (t : Bytes) (r : Quoted) → quoted_means t r ≡ byte_means true t r
-means-quoted t (Byte b p) = refl
-means-quoted t End = refl
+means_quoted : (t : Bytes) (r : Quoted) → quoted_means t r ≡ byte_means true t r
+means_quoted t (Byte b p) = refl
+means_quoted t End = refl
 
 pub returns-then-quoted : goal.returns-then-quoted
 returns-then-quoted c =
     let a = c.args in
-    rw c.if-quoted.true (c.next_quoted.ensures ∙ means-quoted a.text.now c.next_quoted.result)
+    rw c.if-quoted.true (c.next_quoted.ensures ∙ means_quoted a.text.now c.next_quoted.result)
 
 pub returns : goal.returns
 returns c = rw c.if-quoted.false c.next_own.ensures

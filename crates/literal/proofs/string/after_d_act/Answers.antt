@@ -14,14 +14,14 @@ returns-then-is_high_second c =
 pub returns-then-is_low_second : goal.returns-then-is_low_second
 returns-then-is_low_second c =
     let a = c.args in
-    let is-high-second = c.is_high_second in
+    let is_high_second = c.is_high_second in
     record
-    { acts = λ st. act.at_d a.k st a.c false true (sym is-high-second.ensures ∙ c.if-is_high_second.false) (sym c.is_low_second.ensures ∙ c.if-is_low_second.true) }
+    { acts = λ st. act.at_d a.k st a.c false true (sym is_high_second.ensures ∙ c.if-is_high_second.false) (sym c.is_low_second.ensures ∙ c.if-is_low_second.true) }
 
 pub returns : goal.returns
 returns c =
     let if1 = c.if-is_high_second in
     let a = c.args in
-    let is-high-second = c.is_high_second in
+    let is_high_second = c.is_high_second in
     record
-    { acts = λ st. c.hex_act.ensures.acts st ∙ act.at_d a.k st a.c false false (sym is-high-second.ensures ∙ if1.false) (sym c.is_low_second.ensures ∙ c.if-is_low_second.false) }
+    { acts = λ st. c.hex_act.ensures.acts st ∙ act.at_d a.k st a.c false false (sym is_high_second.ensures ∙ if1.false) (sym c.is_low_second.ensures ∙ c.if-is_low_second.false) }

@@ -69,13 +69,13 @@ returns-in-LowBackslash c =
 pub returns-in-LowUnicode : goal.returns-in-LowUnicode
 returns-in-LowUnicode c =
     let a = c.args in
-    let is-d = c.is_d in
+    let is_d = c.is_d in
     let x = a.k in let y = a.c in record
-    { acts = λ st. c.low_act-in-LowUnicode.ensures.acts st ∙ act.at_low_unicode x st y is-d.result (sym is-d.ensures) ∙ ap (λ q. string_step (str_means q) x st y) (sym c.in-LowUnicode.is) }
+    { acts = λ st. c.low_act-in-LowUnicode.ensures.acts st ∙ act.at_low_unicode x st y is_d.result (sym is_d.ensures) ∙ ap (λ q. string_step (str_means q) x st y) (sym c.in-LowUnicode.is) }
 
 pub returns-in-LowAfterD : goal.returns-in-LowAfterD
 returns-in-LowAfterD c =
     let a = c.args in
-    let is-low-second = c.is_low_second in
+    let is_low_second = c.is_low_second in
     let x = a.k in let y = a.c in record
-    { acts = λ st. c.low_act-in-LowAfterD.ensures.acts st ∙ act.at_low_d x st y is-low-second.result (sym is-low-second.ensures) ∙ ap (λ q. string_step (str_means q) x st y) (sym c.in-LowAfterD.is) }
+    { acts = λ st. c.low_act-in-LowAfterD.ensures.acts st ∙ act.at_low_d x st y is_low_second.result (sym is_low_second.ensures) ∙ ap (λ q. string_step (str_means q) x st y) (sym c.in-LowAfterD.is) }

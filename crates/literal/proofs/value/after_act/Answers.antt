@@ -14,53 +14,53 @@ pub returns-then-c-eq44 : goal.returns-then-c-eq44
 returns-then-c-eq44 c =
     let if1 = c.if-is_space in
     let a = c.args in
-    let is-space = c.is_space in
+    let is_space = c.is_space in
     let x = a.c in record
-    { acts = λ st h. act.array_next st x true (eqb x 93) (h ∙ c.in-Array.is) (sym is-space.ensures ∙ if1.false) (eq-eqb x 44 c.if-c-eq44.true) refl }
+    { acts = λ st h. act.array_next st x true (eqb x 93) (h ∙ c.in-Array.is) (sym is_space.ensures ∙ if1.false) (eq-eqb x 44 c.if-c-eq44.true) refl }
 
 pub returns-then-c-eq93 : goal.returns-then-c-eq93
 returns-then-c-eq93 c =
     let if1 = c.if-is_space in
     let a = c.args in
-    let is-space = c.is_space in
+    let is_space = c.is_space in
     let x = a.c in record
-    { acts = λ st h. act.array_next st x false true (h ∙ c.in-Array.is) (sym is-space.ensures ∙ if1.false) (ne_eqb x 44 c.if-c-eq44.false) (eq-eqb x 93 c.if-c-eq93.true) }
+    { acts = λ st h. act.array_next st x false true (h ∙ c.in-Array.is) (sym is_space.ensures ∙ if1.false) (ne_eqb x 44 c.if-c-eq44.false) (eq-eqb x 93 c.if-c-eq93.true) }
 
 pub returns-then-c-eq44-2 : goal.returns-then-c-eq44-2
 returns-then-c-eq44-2 c =
     let if1 = c.if-is_space in
     let a = c.args in
-    let is-space = c.is_space in
+    let is_space = c.is_space in
     let x = a.c in record
-    { acts = λ st h. act.object_next st x true (eqb x 125) (h ∙ c.in-Object.is) (sym is-space.ensures ∙ if1.false) (eq-eqb x 44 c.if-c-eq44-2.true) refl }
+    { acts = λ st h. act.object_next st x true (eqb x 125) (h ∙ c.in-Object.is) (sym is_space.ensures ∙ if1.false) (eq-eqb x 44 c.if-c-eq44-2.true) refl }
 
 pub returns-then-c-eq125 : goal.returns-then-c-eq125
 returns-then-c-eq125 c =
     let if1 = c.if-is_space in
     let a = c.args in
-    let is-space = c.is_space in
+    let is_space = c.is_space in
     let x = a.c in record
-    { acts = λ st h. act.object_next st x false true (h ∙ c.in-Object.is) (sym is-space.ensures ∙ if1.false) (ne_eqb x 44 c.if-c-eq44-2.false) (eq-eqb x 125 c.if-c-eq125.true) }
+    { acts = λ st h. act.object_next st x false true (h ∙ c.in-Object.is) (sym is_space.ensures ∙ if1.false) (ne_eqb x 44 c.if-c-eq44-2.false) (eq-eqb x 125 c.if-c-eq125.true) }
 
 pub returns-in-Nothing : goal.returns-in-Nothing
 returns-in-Nothing c =
     let a = c.args in
-    let is-space = c.is_space in
+    let is_space = c.is_space in
     record
-    { acts = λ st h. act.after_top st a.c (h ∙ c.in-Nothing.is) (sym is-space.ensures ∙ c.if-is_space.false) }
+    { acts = λ st h. act.after_top st a.c (h ∙ c.in-Nothing.is) (sym is_space.ensures ∙ c.if-is_space.false) }
 
 pub returns-else-c-eq93 : goal.returns-else-c-eq93
 returns-else-c-eq93 c =
     let if1 = c.if-is_space in
     let a = c.args in
-    let is-space = c.is_space in
+    let is_space = c.is_space in
     let x = a.c in record
-    { acts = λ st h. act.array_next st x false false (h ∙ c.in-Array.is) (sym is-space.ensures ∙ if1.false) (ne_eqb x 44 c.if-c-eq44.false) (ne_eqb x 93 c.if-c-eq93.false) }
+    { acts = λ st h. act.array_next st x false false (h ∙ c.in-Array.is) (sym is_space.ensures ∙ if1.false) (ne_eqb x 44 c.if-c-eq44.false) (ne_eqb x 93 c.if-c-eq93.false) }
 
 pub returns-else-c-eq125 : goal.returns-else-c-eq125
 returns-else-c-eq125 c =
     let if1 = c.if-is_space in
     let a = c.args in
-    let is-space = c.is_space in
+    let is_space = c.is_space in
     let x = a.c in record
-    { acts = λ st h. act.object_next st x false false (h ∙ c.in-Object.is) (sym is-space.ensures ∙ if1.false) (ne_eqb x 44 c.if-c-eq44-2.false) (ne_eqb x 125 c.if-c-eq125.false) }
+    { acts = λ st h. act.object_next st x false false (h ∙ c.in-Object.is) (sym is_space.ensures ∙ if1.false) (ne_eqb x 44 c.if-c-eq44-2.false) (ne_eqb x 125 c.if-c-eq125.false) }

@@ -20,6 +20,6 @@ returns-then-c-eq93 c =
 pub returns : goal.returns
 returns c =
     let a = c.args in
-    let is-space = c.is_space in
+    let is_space = c.is_space in
     let x = a.c in record
-    { acts = λ st. c.value_start.ensures.acts st ∙ act.at_item st x false false (sym is-space.ensures ∙ c.if-is_space.false) (ne_eqb x 93 c.if-c-eq93.false) }
+    { acts = λ st. c.value_start.ensures.acts st ∙ act.at_item st x false false (sym is_space.ensures ∙ c.if-is_space.false) (ne_eqb x 93 c.if-c-eq93.false) }

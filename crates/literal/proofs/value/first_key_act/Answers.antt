@@ -20,6 +20,6 @@ returns-then-c-eq125 c =
 pub returns : goal.returns
 returns c =
     let a = c.args in
-    let is-space = c.is_space in
+    let is_space = c.is_space in
     let x = a.c in record
-    { acts = λ st. c.key_start.ensures.acts st ∙ act.at_first_key st x false false (sym is-space.ensures ∙ c.if-is_space.false) (ne_eqb x 125 c.if-c-eq125.false) }
+    { acts = λ st. c.key_start.ensures.acts st ∙ act.at_first_key st x false false (sym is_space.ensures ∙ c.if-is_space.false) (ne_eqb x 125 c.if-c-eq125.false) }

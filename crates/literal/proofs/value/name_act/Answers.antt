@@ -16,10 +16,10 @@ returns-then-c-name_byte c =
 
 pub returns-then-name_left-eq0 : goal.returns-then-name_left-eq0
 returns-then-name_left-eq0 c =
-    let name-byte = c.name_byte in
+    let name_byte = c.name_byte in
     let a = c.args in
     let x = a.i in let y = a.c in record
-    { acts = λ st. act.name_last x st (sym c.name_left.ensures ∙ c.if-name_left-eq0.true) ∙ act.at_name st y (get_or name_bytes x 0) _ true (eq-eqb y (get_or name_bytes x 0) (c.if-c-name_byte.false ∙ name-byte.ensures)) }
+    { acts = λ st. act.name_last x st (sym c.name_left.ensures ∙ c.if-name_left-eq0.true) ∙ act.at_name st y (get_or name_bytes x 0) _ true (eq-eqb y (get_or name_bytes x 0) (c.if-c-name_byte.false ∙ name_byte.ensures)) }
 
 pub overflow_add-result : goal.overflow_add-result
 overflow_add-result c =
@@ -28,7 +28,7 @@ overflow_add-result c =
 
 pub returns : goal.returns
 returns c =
-    let name-byte = c.name_byte in
+    let name_byte = c.name_byte in
     let a = c.args in
     let x = a.i in let y = a.c in record
-    { acts = λ st. act.name_more x st (λ q. c.if-name_left-eq0.false (c.name_left.ensures ∙ q)) ∙ act.at_name st y (get_or name_bytes x 0) _ true (eq-eqb y (get_or name_bytes x 0) (c.if-c-name_byte.false ∙ name-byte.ensures)) }
+    { acts = λ st. act.name_more x st (λ q. c.if-name_left-eq0.false (c.name_left.ensures ∙ q)) ∙ act.at_name st y (get_or name_bytes x 0) _ true (eq-eqb y (get_or name_bytes x 0) (c.if-c-name_byte.false ∙ name_byte.ensures)) }

@@ -11,5 +11,5 @@ returns-then-n-eq0 c =
 pub returns : goal.returns
 returns c =
     let a = c.args in
-    let trim-end-blanks = c.trim_end_blanks-s in
-    c.newline_matcher.ensures ∙ text.ends_at a.text.now _ trim-end-blanks.ensures c.if-n-eq0.false
+    let trim_end_blanks = c.trim_end_blanks-s in
+    c.newline_matcher.ensures ∙ text.ends_at a.text.now _ trim_end_blanks.ensures c.if-n-eq0.false

@@ -11,5 +11,5 @@ returns-then-s-eq0 c =
 pub returns : goal.returns
 returns c =
     let a = c.args in
-    let trim-start-blanks = c.trim_start_blanks-s in
-    c.newline_matcher.ensures ∙ text.starts_at a.text.now _ trim-start-blanks.ensures c.if-s-eq0.false
+    let trim_start_blanks = c.trim_start_blanks-s in
+    c.newline_matcher.ensures ∙ text.starts_at a.text.now _ trim_start_blanks.ensures c.if-s-eq0.false

@@ -48,12 +48,12 @@ pub loop-e-preserved : goal.loop-e-preserved
 loop-e-preserved c =
     let a = c.args in
     let l = c.loop-e in
-    let white-before = c.white_before-n in
-    pieces.back_next white_length_back a.s.now l.e white-before.result (sym white-before.ensures)
+    let white_before = c.white_before-n in
+    pieces.back_next white_length_back a.s.now l.e white_before.result (sym white_before.ensures)
     (omega (
       arith,
       white.white_back_le (reverse (take l.e a.s.now)),
-      white-before.ensures,
+      white_before.ensures,
       length-reverse (take l.e a.s.now),
       length-take-le l.e a.s.now l.invariant.inside,
     ))

@@ -33,9 +33,9 @@ pub loop-i-preserved : goal.loop-i-preserved
 loop-i-preserved c =
     let a = c.args in
     let l = c.loop-i in
-    let white-at = c.white_at-n in
-    pieces.reached_next white_length a.s.now l.i white-at.result (sym white-at.ensures)
-    (omega (arith, white.white_length_le (drop l.i a.s.now), white-at.ensures, length-drop l.i a.s.now)) l.invariant
+    let white_at = c.white_at-n in
+    pieces.reached_next white_length a.s.now l.i white_at.result (sym white_at.ensures)
+    (omega (arith, white.white_length_le (drop l.i a.s.now), white_at.ensures, length-drop l.i a.s.now)) l.invariant
 
 pub returns : goal.returns
 unfolding trim_start

@@ -6,14 +6,14 @@ pub returns-then-c : goal.returns-then-c
 returns-then-c c =
     let args = c.args in
     let part = c.part-own in
-    let hbs-comment-compact-text = c.hbs_comment_compact_text in
-    let write-quoted = c.write_quoted in
-    elements.comment_compact_lem args.text.now args.c c.if-c.true part.ensures hbs-comment-compact-text.ensures write-quoted.ensures
+    let hbs_comment_compact_text = c.hbs_comment_compact_text in
+    let write_quoted = c.write_quoted in
+    elements.comment_compact_lem args.text.now args.c c.if-c.true part.ensures hbs_comment_compact_text.ensures write_quoted.ensures
 
 pub returns : goal.returns
 returns c =
     let args = c.args in
     let part = c.part-own in
-    let hbs-comment-text = c.hbs_comment_text in
-    let write-quoted2 = c.write_quoted-2 in
-    elements.comment_plain args.text.now args.c c.if-c.false part.ensures hbs-comment-text.ensures write-quoted2.ensures
+    let hbs_comment_text = c.hbs_comment_text in
+    let write_quoted2 = c.write_quoted-2 in
+    elements.comment_plain args.text.now args.c c.if-c.false part.ensures hbs_comment_text.ensures write_quoted2.ensures

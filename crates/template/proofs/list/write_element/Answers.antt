@@ -18,53 +18,53 @@ returns-in-Empty c =
 pub returns-in-RawString : goal.returns-in-RawString
 returns-in-RawString c =
     let args = c.args in
-    let write-text = c.write_text in
-    (elements.text_written args.text.now args.words.now args.e c.in-RawString.is write-text.ensures, short.opening_short _ _ c.requires.0 args.e (short.place_small args.e _ c.well_formed.1.1.1.1.0))
+    let write_text = c.write_text in
+    (elements.text_written args.text.now args.words.now args.e c.in-RawString.is write_text.ensures, short.opening_short _ _ c.requires.0 args.e (short.place_small args.e _ c.well_formed.1.1.1.1.0))
 
 pub returns-in-Comment : goal.returns-in-Comment
 returns-in-Comment c =
     let args = c.args in
-    let write-comment = c.write_comment in
-    (elements.comment_written args.text.now args.words.now args.e c.in-Comment.is write-comment.ensures, short.opening_short _ _ c.requires.0 args.e (short.place_small args.e _ c.well_formed.1.1.1.1.0))
+    let write_comment = c.write_comment in
+    (elements.comment_written args.text.now args.words.now args.e c.in-Comment.is write_comment.ensures, short.opening_short _ _ c.requires.0 args.e (short.place_small args.e _ c.well_formed.1.1.1.1.0))
 
 pub returns-in-Expression : goal.returns-in-Expression
 returns-in-Expression c =
     let args = c.args in
-    let write-expression = c.write_expression in
-    (elements.expr_written args.text.now args.words.now args.e c.in-Expression.is write-expression.ensures, short.opening_short _ _ c.requires.0 args.e (short.place_small args.e _ c.well_formed.1.1.1.1.0))
+    let write_expression = c.write_expression in
+    (elements.expr_written args.text.now args.words.now args.e c.in-Expression.is write_expression.ensures, short.opening_short _ _ c.requires.0 args.e (short.place_small args.e _ c.well_formed.1.1.1.1.0))
 
 pub returns-in-HtmlExpression : goal.returns-in-HtmlExpression
 returns-in-HtmlExpression c =
     let args = c.args in
-    let write-expression2 = c.write_expression-in-HtmlExpression in
-    (elements.html_written args.text.now args.words.now args.e c.in-HtmlExpression.is write-expression2.ensures, short.opening_short _ _ c.requires.0 args.e (short.place_small args.e _ c.well_formed.1.1.1.1.0))
+    let write_expression2 = c.write_expression-in-HtmlExpression in
+    (elements.html_written args.text.now args.words.now args.e c.in-HtmlExpression.is write_expression2.ensures, short.opening_short _ _ c.requires.0 args.e (short.place_small args.e _ c.well_formed.1.1.1.1.0))
 
 pub returns-in-HelperBlock : goal.returns-in-HelperBlock
 returns-in-HelperBlock c =
     let args = c.args in
-    let write-block = c.write_block in
-    (elements.block_written args.text.now args.words.now args.e c.in-HelperBlock.is write-block.ensures, short.opening_short _ _ c.requires.0 args.e (short.place_small args.e _ c.well_formed.1.1.1.1.0))
+    let write_block = c.write_block in
+    (elements.block_written args.text.now args.words.now args.e c.in-HelperBlock.is write_block.ensures, short.opening_short _ _ c.requires.0 args.e (short.place_small args.e _ c.well_formed.1.1.1.1.0))
 
 pub returns-in-DecoratorExpression : goal.returns-in-DecoratorExpression
 returns-in-DecoratorExpression c =
     let args = c.args in
-    let write-decorated = c.write_decorated in
-    (elements.decor_written args.text.now args.words.now args.e c.in-DecoratorExpression.is write-decorated.ensures, short.opening_short _ _ c.requires.0 args.e (short.place_small args.e _ c.well_formed.1.1.1.1.0))
+    let write_decorated = c.write_decorated in
+    (elements.decor_written args.text.now args.words.now args.e c.in-DecoratorExpression.is write_decorated.ensures, short.opening_short _ _ c.requires.0 args.e (short.place_small args.e _ c.well_formed.1.1.1.1.0))
 
 pub returns-in-PartialExpression : goal.returns-in-PartialExpression
 returns-in-PartialExpression c =
     let args = c.args in
-    let write-decorated2 = c.write_decorated-in-PartialExpression in
-    (elements.partial_written args.text.now args.words.now args.e c.in-PartialExpression.is write-decorated2.ensures, short.opening_short _ _ c.requires.0 args.e (short.place_small args.e _ c.well_formed.1.1.1.1.0))
+    let write_decorated2 = c.write_decorated-in-PartialExpression in
+    (elements.partial_written args.text.now args.words.now args.e c.in-PartialExpression.is write_decorated2.ensures, short.opening_short _ _ c.requires.0 args.e (short.place_small args.e _ c.well_formed.1.1.1.1.0))
 
 pub returns-in-DecoratorBlock : goal.returns-in-DecoratorBlock
 returns-in-DecoratorBlock c =
     let args = c.args in
-    let write-decorated3 = c.write_decorated-in-DecoratorBlock in
-    (elements.decor_block_written args.text.now args.words.now args.e c.in-DecoratorBlock.is write-decorated3.ensures, short.opening_short _ _ c.requires.0 args.e (short.place_small args.e _ c.well_formed.1.1.1.1.0))
+    let write_decorated3 = c.write_decorated-in-DecoratorBlock in
+    (elements.decor_block_written args.text.now args.words.now args.e c.in-DecoratorBlock.is write_decorated3.ensures, short.opening_short _ _ c.requires.0 args.e (short.place_small args.e _ c.well_formed.1.1.1.1.0))
 
 pub returns-in-PartialBlock : goal.returns-in-PartialBlock
 returns-in-PartialBlock c =
     let args = c.args in
-    let write-decorated4 = c.write_decorated-in-PartialBlock in
-    (elements.partial_block_written args.text.now args.words.now args.e c.in-PartialBlock.is write-decorated4.ensures, short.opening_short _ _ c.requires.0 args.e (short.place_small args.e _ c.well_formed.1.1.1.1.0))
+    let write_decorated4 = c.write_decorated-in-PartialBlock in
+    (elements.partial_block_written args.text.now args.words.now args.e c.in-PartialBlock.is write_decorated4.ensures, short.opening_short _ _ c.requires.0 args.e (short.place_small args.e _ c.well_formed.1.1.1.1.0))

@@ -6,10 +6,10 @@ use Rattle.template.proofs.list.write_end.Goals as goal
 
 pub returns-then-more : goal.returns-then-more
 returns-then-more c =
-    let put-bytes = c.put_bytes in
-    elements.bytes_are (ap body_end c.if-more.true) put-bytes.ensures
+    let put_bytes = c.put_bytes in
+    elements.bytes_are (ap body_end c.if-more.true) put_bytes.ensures
 
 pub returns : goal.returns
 returns c =
-    let put-bytes2 = c.put_bytes-2 in
-    elements.bytes_are (ap body_end c.if-more.false) put-bytes2.ensures
+    let put_bytes2 = c.put_bytes-2 in
+    elements.bytes_are (ap body_end c.if-more.false) put_bytes2.ensures

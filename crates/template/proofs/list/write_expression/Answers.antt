@@ -11,10 +11,10 @@ pub returns : goal.returns
 returns c =
     let args = c.args in
     let good = c.well_formed in
-    let put-bytes = c.put_bytes-o in
-    let write-place = c.write_place-p in
-    let put-bytes2 = c.put_bytes-q in
-    let link-of = c.link_of in
-    let write-helper = c.write_helper-s in
-    let put-bytes3 = c.put_bytes in
-    let w = ap (λ z. write_forms (helper_children args.text.now args.words.now z)) (sym link-of.ensures) in paths.five (omega (arith, good.0.0)) put-bytes.ensures write-place.ensures put-bytes2.ensures (elements.bytes_are w write-helper.ensures) put-bytes3.ensures
+    let put_bytes = c.put_bytes-o in
+    let write_place = c.write_place-p in
+    let put_bytes2 = c.put_bytes-q in
+    let link_of = c.link_of in
+    let write_helper = c.write_helper-s in
+    let put_bytes3 = c.put_bytes in
+    let w = ap (λ z. write_forms (helper_children args.text.now args.words.now z)) (sym link_of.ensures) in paths.five (omega (arith, good.0.0)) put_bytes.ensures write_place.ensures put_bytes2.ensures (elements.bytes_are w write_helper.ensures) put_bytes3.ensures

@@ -10,9 +10,9 @@ write_raw-t-requires c = c.requires
 pub returns : goal.returns
 returns c =
     let good = c.well_formed in
-    let put-bytes = c.put_bytes-p in
-    let write-place = c.write_place-q in
-    let put-bytes2 = c.put_bytes-s in
-    let write-raw = c.write_raw-t in
-    let put-bytes3 = c.put_bytes in
-    rw (elements.text_bytes _ _) (paths.five (omega (arith, good.0.0)) put-bytes.ensures write-place.ensures put-bytes2.ensures write-raw.ensures put-bytes3.ensures)
+    let put_bytes = c.put_bytes-p in
+    let write_place = c.write_place-q in
+    let put_bytes2 = c.put_bytes-s in
+    let write_raw = c.write_raw-t in
+    let put_bytes3 = c.put_bytes in
+    rw (elements.text_bytes _ _) (paths.five (omega (arith, good.0.0)) put_bytes.ensures write_place.ensures put_bytes2.ensures write_raw.ensures put_bytes3.ensures)

@@ -12,36 +12,36 @@ loop-c-init c =
 pub shape_of-out-then-c : goal.shape_of-out-then-c
 shape_of-out-then-c c =
     let loop = c.loop-c in
-    let piece-end = c.piece_end-end in
+    let piece_end = c.piece_end-end in
     let part = c.part in
-    let write-escaped = c.write_escaped-p in
-    writes.writing_length loop.invariant piece-end.ensures part.ensures (omega arith) write-escaped.ensures
+    let write_escaped = c.write_escaped-p in
+    writes.writing_length loop.invariant piece_end.ensures part.ensures (omega arith) write_escaped.ensures
 
 pub returns-then-c : goal.returns-then-c
 returns-then-c c =
     let loop = c.loop-c in
-    let piece-end = c.piece_end-end in
+    let piece_end = c.piece_end-end in
     let part = c.part in
-    let write-escaped = c.write_escaped-p in
-    writes.writing_end loop.invariant piece-end.ensures part.ensures (omega arith) write-escaped.ensures c.if-c.true
+    let write_escaped = c.write_escaped-p in
+    writes.writing_end loop.invariant piece_end.ensures part.ensures (omega arith) write_escaped.ensures c.if-c.true
 
 pub without_first-c-requires : goal.without_first-c-requires
 without_first-c-requires c =
     let args = c.args in
     let loop = c.loop-c in
-    let piece-end = c.piece_end-end in
-    (let h = cuts.end_inside args.text.now args.words.now loop.c loop.invariant.good piece-end.ensures c.if-c.false in omega arith, c.if-c.false)
+    let piece_end = c.piece_end-end in
+    (let h = cuts.end_inside args.text.now args.words.now loop.c loop.invariant.good piece_end.ensures c.if-c.false in omega arith, c.if-c.false)
 
 pub loop-c-smaller : goal.loop-c-smaller
 loop-c-smaller c =
     let loop = c.loop-c in
-    let piece-end = c.piece_end-end in
-    cuts.rest_less loop.c piece-end.result c.without_first-c.ensures c.if-c.false
+    let piece_end = c.piece_end-end in
+    cuts.rest_less loop.c piece_end.result c.without_first-c.ensures c.if-c.false
 
 pub loop-c-preserved : goal.loop-c-preserved
 loop-c-preserved c =
     let loop = c.loop-c in
-    let piece-end = c.piece_end-end in
+    let piece_end = c.piece_end-end in
     let part = c.part in
-    let write-escaped = c.write_escaped-p in
-    writes.writing_on loop.invariant piece-end.ensures part.ensures (omega arith) write-escaped.ensures c.if-c.false c.without_first-c.ensures
+    let write_escaped = c.write_escaped-p in
+    writes.writing_on loop.invariant piece_end.ensures part.ensures (omega arith) write_escaped.ensures c.if-c.false c.without_first-c.ensures

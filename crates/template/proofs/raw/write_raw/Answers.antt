@@ -14,12 +14,12 @@ pub returns : goal.returns
 returns c =
     let args = c.args in
     let pre = c.requires in
-    let last-escape = c.last_escape in
-    let trimmed-front = c.trimmed_front in
-    let trimmed-back = c.trimmed_back-c in
+    let last_escape = c.last_escape in
+    let trimmed_front = c.trimmed_front in
+    let trimmed_back = c.trimmed_back-c in
     let good = c.well_formed in
     let put = c.put-p in
-    let write-cut = c.write_cut-q in
+    let write_cut = c.write_cut-q in
     let put2 = c.put in
-    let m = escapes.raw_means_lem args.r (escapes.raw_cut pre.0 pre.1 last-escape.result last-escape.ensures) trimmed-front.ensures trimmed-back.ensures in
-    writes.quoted_done (raw_means args.text.now args.words.now args.r) (omega (arith, good)) put.ensures (rw m at write-cut.ensures) put2.ensures
+    let m = escapes.raw_means_lem args.r (escapes.raw_cut pre.0 pre.1 last_escape.result last_escape.ensures) trimmed_front.ensures trimmed_back.ensures in
+    writes.quoted_done (raw_means args.text.now args.words.now args.r) (omega (arith, good)) put.ensures (rw m at write_cut.ensures) put2.ensures

@@ -16,14 +16,14 @@ returns-in_default c =
 pub returns-then-limit-x : goal.returns-then-limit-x
 returns-then-limit-x c =
     let loop = c.loop-x in
-    let escape-at = c.escape_at-e in
-    laws.escaping_past loop.invariant (cases.escape_found c.in-Found.is escape-at.ensures) c.if-limit-x.true
+    let escape_at = c.escape_at-e in
+    laws.escaping_past loop.invariant (cases.escape_found c.in-Found.is escape_at.ensures) c.if-limit-x.true
 
 pub returns-then-bad_escape : goal.returns-then-bad_escape
 returns-then-bad_escape c =
     let loop = c.loop-x in
-    let escape-at = c.escape_at-e in
-    laws.escaping_bad loop.invariant (cases.escape_found c.in-Found.is escape-at.ensures) c.if-limit-x.false
+    let escape_at = c.escape_at-e in
+    laws.escaping_bad loop.invariant (cases.escape_found c.in-Found.is escape_at.ensures) c.if-limit-x.false
     c.bad_escape.ensures c.if-bad_escape.true
 
 pub overflow_add-least : goal.overflow_add-least
@@ -36,20 +36,20 @@ overflow_add-least c =
 
 pub overflow_add-k : goal.overflow_add-k
 overflow_add-k c =
-    let escape-at = c.escape_at-e in
+    let escape_at = c.escape_at-e in
     let good = c.well_formed in
-    let w = (cases.escape_found c.in-Found.is escape-at.ensures) in
+    let w = (cases.escape_found c.in-Found.is escape_at.ensures) in
     omega (arith, good)
 
 pub loop-x-smaller : goal.loop-x-smaller
 loop-x-smaller c =
-    let escape-at = c.escape_at-e in
-    let w = (cases.escape_found c.in-Found.is escape-at.ensures) in
+    let escape_at = c.escape_at-e in
+    let w = (cases.escape_found c.in-Found.is escape_at.ensures) in
     omega arith
 
 pub loop-x-preserved : goal.loop-x-preserved
 loop-x-preserved c =
     let loop = c.loop-x in
-    let escape-at = c.escape_at-e in
-    laws.escaping_on loop.invariant (cases.escape_found c.in-Found.is escape-at.ensures) c.if-limit-x.false c.bad_escape.ensures
+    let escape_at = c.escape_at-e in
+    laws.escaping_on loop.invariant (cases.escape_found c.in-Found.is escape_at.ensures) c.if-limit-x.false c.bad_escape.ensures
     c.if-bad_escape.false

@@ -31,23 +31,23 @@ returns-then-span_count-gt-LIMIT c =
 pub returns-then-valid-text : goal.returns-then-valid-text
 returns-then-valid-text c =
     let a = c.args in
-    let span-count = c.span_count in
+    let span_count = c.span_count in
     laws.checked_refused a.text.now a.words.now a.options c.refused-then-valid-text.ensures
-    (laws.check_4 a.text.now a.words.now a.options (omega arith) (omega arith) c.if-words-ne0.false (omega (arith, span-count.ensures)) (omega (arith, c.valid_up_to-valid.ensures)) ∙ ap (laws.refused_at 4) (sym c.valid_up_to-valid.ensures))
+    (laws.check_4 a.text.now a.words.now a.options (omega arith) (omega arith) c.if-words-ne0.false (omega (arith, span_count.ensures)) (omega (arith, c.valid_up_to-valid.ensures)) ∙ ap (laws.refused_at 4) (sym c.valid_up_to-valid.ensures))
 
 pub returns-then-bad-span_count : goal.returns-then-bad-span_count
 returns-then-bad-span_count c =
     let a = c.args in
-    let span-count = c.span_count in
+    let span_count = c.span_count in
     let valid_up_to = c.valid_up_to-valid in
-    let first-bad = c.first_bad-bad in
+    let first_bad = c.first_bad-bad in
     laws.checked_refused a.text.now a.words.now a.options c.refused-then-bad-span_count.ensures
-    (laws.check_5 a.text.now a.words.now a.options (omega arith) (omega arith) c.if-words-ne0.false (omega (arith, span-count.ensures)) (omega (arith, valid_up_to.ensures)) (first-bad.ensures.found (omega (arith, c.span_count-2.ensures))))
+    (laws.check_5 a.text.now a.words.now a.options (omega arith) (omega arith) c.if-words-ne0.false (omega (arith, span_count.ensures)) (omega (arith, valid_up_to.ensures)) (first_bad.ensures.found (omega (arith, c.span_count-2.ensures))))
 
 pub returns : goal.returns
 returns c =
     let a = c.args in
-    let span-count = c.span_count in
+    let span_count = c.span_count in
     let valid_up_to = c.valid_up_to-valid in
-    laws.check_good a.text.now a.words.now a.options (omega arith) (omega arith) c.if-words-ne0.false (omega (arith, span-count.ensures))
+    laws.check_good a.text.now a.words.now a.options (omega arith) (omega arith) c.if-words-ne0.false (omega (arith, span_count.ensures))
     (omega (arith, valid_up_to.ensures)) (c.first_bad-bad.ensures.absent (omega (arith, c.span_count-2.ensures)))

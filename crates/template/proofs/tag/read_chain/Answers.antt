@@ -11,15 +11,15 @@ returns-in_default c =
 pub returns-in-Done-p : goal.returns-in-Done-p
 returns-in-Done-p c =
     let a = c.args in
-    let parse-tilde = c.parse_tilde-t in
-    let parse-name = c.parse_name-p in
-    laws.chain_own a.text.now a.words.now a.s (cases.tilde_done c.in-Done.is parse-tilde.ensures)
-    (cases.param_done c.in-Done-p.is parse-name.ensures) c.read_own.result c.read_own.ensures
+    let parse_tilde = c.parse_tilde-t in
+    let parse_name = c.parse_name-p in
+    laws.chain_own a.text.now a.words.now a.s (cases.tilde_done c.in-Done.is parse_tilde.ensures)
+    (cases.param_done c.in-Done-p.is parse_name.ensures) c.read_own.result c.read_own.ensures
 
 pub returns-in-Failed : goal.returns-in-Failed
 returns-in-Failed c =
     let a = c.args in
-    let parse-tilde = c.parse_tilde-t in
-    let parse-name = c.parse_name-p in
-    laws.chain_no_name a.text.now a.words.now a.s (cases.tilde_done c.in-Done.is parse-tilde.ensures)
-    (cases.param_failed c.in-Failed.is parse-name.ensures)
+    let parse_tilde = c.parse_tilde-t in
+    let parse_name = c.parse_name-p in
+    laws.chain_no_name a.text.now a.words.now a.s (cases.tilde_done c.in-Done.is parse_tilde.ensures)
+    (cases.param_failed c.in-Failed.is parse_name.ensures)

@@ -13,8 +13,8 @@ pub returns : goal.returns
 returns c =
     let a = c.args in
     let gap_of = c.gap_of in
-    let process-standalone-statement = c.process_standalone_statement-standalone in
-    let comment-of = c.comment_of-e in
-    let trim-of = c.trim_of in
+    let process_standalone_statement = c.process_standalone_statement-standalone in
+    let comment_of = c.comment_of-e in
+    let trim_of = c.trim_of in
     laws.kind_as a.text.now a.words.now a.o a.v a.s a.here c.step_as.ensures
-    (laws.comment_step_lem a.text.now a.words.now a.o a.v a.s a.here c.stage_after_gap.result a.gap gap_of.ensures c.stage_after_gap.ensures refl process-standalone-statement.ensures comment-of.result (eqb a.s.tag 19) trim-of.ensures c.requires.first_tag c.requires.last_tag refl comment-of.ensures)
+    (laws.comment_step_lem a.text.now a.words.now a.o a.v a.s a.here c.stage_after_gap.result a.gap gap_of.ensures c.stage_after_gap.ensures refl process_standalone_statement.ensures comment_of.result (eqb a.s.tag 19) trim_of.ensures c.requires.first_tag c.requires.last_tag refl comment_of.ensures)

@@ -10,22 +10,22 @@ returns-then-too_many_open c =
 pub returns-then-helper_name_differs : goal.returns-then-helper_name_differs
 returns-then-helper_name_differs c =
     let a = c.args in
-    let too-many-open = c.too_many_open in
-    laws.refusal_10 a.text.now a.tag a.count a.opened a.end too-many-open.ensures c.if-too_many_open.false
+    let too_many_open = c.too_many_open in
+    laws.refusal_10 a.text.now a.tag a.count a.opened a.end too_many_open.ensures c.if-too_many_open.false
     c.helper_name_differs.ensures c.if-helper_name_differs.true
 
 pub returns-then-decorator_name_differs : goal.returns-then-decorator_name_differs
 returns-then-decorator_name_differs c =
     let a = c.args in
-    let too-many-open = c.too_many_open in
-    let helper-name-differs = c.helper_name_differs in
-    laws.refusal_11 a.text.now a.tag a.count a.opened a.end too-many-open.ensures c.if-too_many_open.false helper-name-differs.ensures
+    let too_many_open = c.too_many_open in
+    let helper_name_differs = c.helper_name_differs in
+    laws.refusal_11 a.text.now a.tag a.count a.opened a.end too_many_open.ensures c.if-too_many_open.false helper_name_differs.ensures
     c.if-helper_name_differs.false c.decorator_name_differs.ensures c.if-decorator_name_differs.true
 
 pub returns : goal.returns
 returns c =
     let a = c.args in
-    let too-many-open = c.too_many_open in
-    let helper-name-differs = c.helper_name_differs in
-    laws.refusal_none a.text.now a.tag a.count a.opened a.end too-many-open.ensures c.if-too_many_open.false helper-name-differs.ensures
+    let too_many_open = c.too_many_open in
+    let helper_name_differs = c.helper_name_differs in
+    laws.refusal_none a.text.now a.tag a.count a.opened a.end too_many_open.ensures c.if-too_many_open.false helper_name_differs.ensures
     c.if-helper_name_differs.false c.decorator_name_differs.ensures c.if-decorator_name_differs.false

@@ -11,7 +11,7 @@ overflow_add-s c =
 pub returns : goal.returns
 returns c =
     let a = c.args in
-    let stage-after-gap = c.stage_after_gap in
+    let stage_after_gap = c.stage_after_gap in
     let gap_of = c.gap_of in
     λ text o. laws.kind_as text a.words.now o a.v a.s a.here c.step_as.ensures
-    (laws.skipped_step text a.words.now o a.v a.s a.here stage-after-gap.result a.gap gap_of.ensures stage-after-gap.ensures c.but_not.ensures c.requires.kind)
+    (laws.skipped_step text a.words.now o a.v a.s a.here stage_after_gap.result a.gap gap_of.ensures stage_after_gap.ensures c.but_not.ensures c.requires.kind)

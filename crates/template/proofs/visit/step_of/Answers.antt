@@ -10,16 +10,16 @@ pub returns : goal.returns
 returns c =
     let a = c.args in
     let gap_of = c.gap_of in
-    let but-not = c.but_not-line in
-    let process-standalone-statement = c.process_standalone_statement-standalone in
+    let but_not = c.but_not-line in
+    let process_standalone_statement = c.process_standalone_statement-standalone in
     let is_cut = c.is_cut-cut in
-    let trim-of = c.trim_of in
-    let but-not2 = c.but_not-mark in
-    let is-indented = c.is_indented-indent in
-    let element-of = c.element_of in
+    let trim_of = c.trim_of in
+    let but_not2 = c.but_not-mark in
+    let is_indented = c.is_indented-indent in
+    let element_of = c.element_of in
     let named = c.named-e in
-    let act-of = c.act_of in
+    let act_of = c.act_of in
     laws.tag_step_lem a.text.now a.words.now a.o a.v a.s a.here a.x (laws.gap_stage a.gap a.v.marks.stage) a.gap
-    gap_of.ensures (laws.gap_stage_lem a.gap a.v.marks.stage) but-not.ensures process-standalone-statement.ensures is_cut.ensures
-    trim-of.ensures c.stage_of.ensures c.line_mark.ensures but-not2.ensures is-indented.ensures
-    element-of.ensures named.ensures act-of.ensures c.step_as.ensures
+    gap_of.ensures (laws.gap_stage_lem a.gap a.v.marks.stage) but_not.ensures process_standalone_statement.ensures is_cut.ensures
+    trim_of.ensures c.stage_of.ensures c.line_mark.ensures but_not2.ensures is_indented.ensures
+    element_of.ensures named.ensures act_of.ensures c.step_as.ensures

@@ -7,20 +7,20 @@ use Rattle.template.specs.declared.element.TemplateElement.{TemplateElement}
 use Rattle.template.specs.declared.element.RawString.{RawString}
 use Rattle.template.proofs.element.Element.trim_end.Goals as goal
 
-not-text : (x : TemplateElement) (b : Back) → ((r : RawString) → x ≡ E.RawString r → ⊥) → trimmed x b ≡ x
-not-text E.Empty b h = refl
-not-text (E.RawString r) b h = absurd (h r refl)
-not-text (E.Comment c) b h = refl
-not-text (E.Expression x) b h = refl
-not-text (E.HtmlExpression x) b h = refl
-not-text (E.HelperBlock x) b h = refl
-not-text (E.DecoratorExpression d) b h = refl
-not-text (E.PartialExpression d) b h = refl
-not-text (E.DecoratorBlock d) b h = refl
-not-text (E.PartialBlock d) b h = refl
+not_text : (x : TemplateElement) (b : Back) → ((r : RawString) → x ≡ E.RawString r → ⊥) → trimmed x b ≡ x
+not_text E.Empty b h = refl
+not_text (E.RawString r) b h = absurd (h r refl)
+not_text (E.Comment c) b h = refl
+not_text (E.Expression x) b h = refl
+not_text (E.HtmlExpression x) b h = refl
+not_text (E.HelperBlock x) b h = refl
+not_text (E.DecoratorExpression d) b h = refl
+not_text (E.PartialExpression d) b h = refl
+not_text (E.DecoratorBlock d) b h = refl
+not_text (E.PartialBlock d) b h = refl
 
 pub returns-in-RawString : goal.returns-in-RawString
 returns-in-RawString c = ap (set_element c.args.self) (rw (c.more_of-joined.ensures, c.in-RawString.is))
 
 pub returns : goal.returns
-returns c = ap (set_element c.args.self) (sym (not-text c.args.self.element c.args.back c.in_default.not-RawString))
+returns c = ap (set_element c.args.self) (sym (not_text c.args.self.element c.args.back c.in_default.not-RawString))
