@@ -7,7 +7,6 @@ pub mod Order
 pub mod Lists
 mod Below
 mod Bound
-mod SmallLaws
 mod Laws
 mod KeyLaws
 mod AgainLaws

@@ -1,10 +1,12 @@
 -- Reading again: an expression's parameters in order, its keys in byte order, and into a subexpression, from their links. Literals were
 -- judged when they were first read, and are kept as they stand.
-use Rattle.std.specs.Prelude.{ℕ, ◌<◌, ◌≡◌, List, Bool, true, false}
+use Rattle.std.specs.Prelude.{ℕ, ◌<◌, ◌≡◌, List, Bool, true, false, Some, None, Result, Ok, Err}
+use Rattle.std.specs.Prelude as std
 use Rattle.std.proofs.Math.Option.{Option, none, some}
 use Rattle.support.specs.Bytes.{Bytes, precedes}
 use Rattle.json_path.specs.Span.{span_count, spans_from}
 use Rattle.json_path.specs.Answers.{name_means}
+use Rattle.json_path.specs.declared.path.Name.{Name}
 use Rattle.expression.specs.Expression.{subexpression, Params, no_params, param, Keys, no_keys, key}
 use Rattle.expression.specs.Read.{Read, failed, mapped, Reads}
 use Rattle.expression.specs.Readers.{read_expression}
@@ -14,10 +16,7 @@ use Rattle.expression.specs.declared.parameter.Subexpression.{Subexpression}
 use Rattle.expression.specs.declared.parameter.Parts.{Parts}
 use Rattle.expression.specs.declared.parameter.Hash.{Hash}
 use Rattle.expression.specs.declared.parameter.ExpressionSpec.{ExpressionSpec}
-use Rattle.expression.specs.declared.parameter.ExpressionRead.{ExpressionRead}
-use Rattle.expression.specs.declared.again.ParamStep.{ParamStep}
-use Rattle.expression.specs.declared.again.Bound.{Bound}
-use Rattle.expression.specs.declared.again.KeyStep.{KeyStep}
+use Rattle.expression.specs.declared.parameter.Fault.{Fault}
 
 -- ---- the parameters
 
@@ -29,27 +28,27 @@ pub record FirstParam (text : Bytes) (words : List ℕ) (p : Parts) (v : Paramet
   pub linked : ParamLinked text words v
 
 -- what each case says
-abbrev pub ParamStepMeans : Bytes → List ℕ → Parts → ParamStep → Type 0
-ParamStepMeans text words p (ParamStep.Param v q) = FirstParam text words p v q
-ParamStepMeans text words p ParamStep.End = Reads (params_read text words p) no_params
-ParamStepMeans text words p (ParamStep.Failed f) = params_read text words p ≡ failed (fault_means f)
+abbrev pub ParamStepMeans : Bytes → List ℕ → Parts → Result (std.Option (Parameter × Parts)) Fault → Type 0
+ParamStepMeans text words p (Ok (Some (v, q))) = FirstParam text words p v q
+ParamStepMeans text words p (Ok None) = Reads (params_read text words p) no_params
+ParamStepMeans text words p (Err f) = params_read text words p ≡ failed (fault_means f)
 
 -- r is the step from p
-pub record ParamStepIs (text : Bytes) (words : List ℕ) (p : Parts) (r : ParamStep) : Type 0 where
+pub record ParamStepIs (text : Bytes) (words : List ℕ) (p : Parts) (r : Result (std.Option (Parameter × Parts)) Fault) : Type 0 where
   pub means : ParamStepMeans text words p r
 
 -- going through the parameters of p's parts, one answer after the other up to the end, meets these
 pub data ParamsMet (text : Bytes) (words : List ℕ) : Parts → Params → Type 0 where
-  stops : {p : Parts} → ParamStepIs text words p ParamStep.End → ParamsMet text words p no_params
-  takes : {p q : Parts} {v : Parameter} {vs : Params} → ParamStepIs text words p (ParamStep.Param v q) → ParamsMet text words q vs
+  stops : {p : Parts} → ParamStepIs text words p (Ok None) → ParamsMet text words p no_params
+  takes : {p q : Parts} {v : Parameter} {vs : Params} → ParamStepIs text words p (Ok (Some (v, q))) → ParamsMet text words q vs
       → ParamsMet text words p (param (param_means text words v) vs)
 
 -- ---- the keys
 
 -- every key, or those that stand after a name
-abbrev pub bound_means : Bytes → Bound → Option Bytes
-bound_means text Bound.None = none
-bound_means text (Bound.Above n) = some (name_means text n)
+abbrev pub bound_means : Bytes → std.Option Name → Option Bytes
+bound_means text None = none
+bound_means text (Some n) = some (name_means text n)
 
 -- k is above the bound
 abbrev pub is_above : Option Bytes → Bytes → Bool
@@ -62,28 +61,28 @@ keys_above b no_keys = no_keys
 keys_above b (key k v ks) = elim (is_above b k) [ true ↦ key k v (keys_above b ks) | false ↦ keys_above b ks ]
 
 -- the keys of p's parts that are above a bound
-abbrev pub keys_left : Bytes → List ℕ → Parts → Bound → Read Keys
+abbrev pub keys_left : Bytes → List ℕ → Parts → std.Option Name → Read Keys
 keys_left text words p b = mapped (keys_above (bound_means text b)) (keys_read text words p)
 
 -- h is the first of the keys above b, and those above h's are the others
-pub record FirstKey (text : Bytes) (words : List ℕ) (p : Parts) (b : Bound) (h : Hash) : Type 0 where
-  pub first : keys_left text words p b ≡ mapped (key (name_means text h.key) (param_means text words h.value)) (keys_left text words p (Bound.Above h.key))
+pub record FirstKey (text : Bytes) (words : List ℕ) (p : Parts) (b : std.Option Name) (h : Hash) : Type 0 where
+  pub first : keys_left text words p b ≡ mapped (key (name_means text h.key) (param_means text words h.value)) (keys_left text words p (Some h.key))
   pub linked : ParamLinked text words h.value
 
 -- what each case says
-abbrev pub KeyStepMeans : Bytes → List ℕ → Parts → Bound → KeyStep → Type 0
-KeyStepMeans text words p b (KeyStep.Key h) = FirstKey text words p b h
-KeyStepMeans text words p b KeyStep.End = Reads (keys_left text words p b) no_keys
-KeyStepMeans text words p b (KeyStep.Failed f) = keys_left text words p b ≡ failed (fault_means f)
+abbrev pub KeyStepMeans : Bytes → List ℕ → Parts → std.Option Name → Result (std.Option Hash) Fault → Type 0
+KeyStepMeans text words p b (Ok (Some h)) = FirstKey text words p b h
+KeyStepMeans text words p b (Ok None) = Reads (keys_left text words p b) no_keys
+KeyStepMeans text words p b (Err f) = keys_left text words p b ≡ failed (fault_means f)
 
 -- r is the step from the bound b
-pub record KeyStepIs (text : Bytes) (words : List ℕ) (p : Parts) (b : Bound) (r : KeyStep) : Type 0 where
+pub record KeyStepIs (text : Bytes) (words : List ℕ) (p : Parts) (b : std.Option Name) (r : Result (std.Option Hash) Fault) : Type 0 where
   pub means : KeyStepMeans text words p b r
 
 -- going through the keys of p's parts above a bound, one answer after the other up to the end, meets these
-pub data KeysMet (text : Bytes) (words : List ℕ) (p : Parts) : Bound → Keys → Type 0 where
-  stops : {b : Bound} → KeyStepIs text words p b KeyStep.End → KeysMet text words p b no_keys
-  takes : {b : Bound} {h : Hash} {ks : Keys} → KeyStepIs text words p b (KeyStep.Key h) → KeysMet text words p (Bound.Above h.key) ks
+pub data KeysMet (text : Bytes) (words : List ℕ) (p : Parts) : std.Option Name → Keys → Type 0 where
+  stops : {b : std.Option Name} → KeyStepIs text words p b (Ok None) → KeysMet text words p b no_keys
+  takes : {b : std.Option Name} {h : Hash} {ks : Keys} → KeyStepIs text words p b (Ok (Some h)) → KeysMet text words p (Some h.key) ks
       → KeysMet text words p b (key (name_means text h.key) (param_means text words h.value) ks)
 
 -- ---- subexpressions
@@ -94,10 +93,10 @@ pub record Entered (text : Bytes) (words : List ℕ) (s : Subexpression) (x : Ex
   pub linked : Links text words x
 
 -- what each case says: the expression of the link s, or why it has none
-abbrev pub SubexpressionMeans : Bytes → List ℕ → Subexpression → ExpressionRead → Type 0
-SubexpressionMeans text words s (ExpressionRead.Done x) = Entered text words s x
-SubexpressionMeans text words s (ExpressionRead.Failed f) = read_expression false text s.depth s.limit (spans_from words s.from) ≡ failed (fault_means f)
+abbrev pub SubexpressionMeans : Bytes → List ℕ → Subexpression → Result ExpressionSpec Fault → Type 0
+SubexpressionMeans text words s (Ok x) = Entered text words s x
+SubexpressionMeans text words s (Err f) = read_expression false text s.depth s.limit (spans_from words s.from) ≡ failed (fault_means f)
 
 -- r is what the link s leads to
-pub record SubexpressionIs (text : Bytes) (words : List ℕ) (s : Subexpression) (r : ExpressionRead) : Type 0 where
+pub record SubexpressionIs (text : Bytes) (words : List ℕ) (s : Subexpression) (r : Result ExpressionSpec Fault) : Type 0 where
   pub means : SubexpressionMeans text words s r

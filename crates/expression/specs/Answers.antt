@@ -1,12 +1,13 @@
 -- What the answers of the readers mean: each value of the code in terms of the specification's, each case of an enum in terms of its readers.
-use Rattle.std.specs.Prelude.{ℕ, ◌+◌, ◌≤◌, ◌<◌, ◌≡◌, List, [], ◌∷◌, Bool, true, false}
+use Rattle.std.specs.Prelude.{ℕ, ◌+◌, ◌≤◌, ◌<◌, ◌≡◌, List, [], ◌∷◌, Bool, true, false, Some, None, Result, Ok, Err}
+use Rattle.std.specs.Prelude as std
 use Rattle.std.proofs.Math.Option.{Option, none, some}
 use Rattle.support.specs.Bytes.{Bytes, if, part}
 use Rattle.json_path.specs.Span.{Span, span_count, spans_from}
 use Rattle.json_path.specs.Answers.{name_means, path_means}
-use Rattle.json_path.specs.declared.span.Next.{Next}
+use Rattle.json_path.specs.declared.path.Name as json_path
 use Rattle.literal.specs.Requote.{requoted}
-use Rattle.literal.specs.declared.check.Verdict.{Verdict}
+use Rattle.literal.specs.declared.check.LiteralError.{LiteralError}
 use Rattle.expression.specs.Expression.{Param, name, path, literal, subexpression, Call, call, Params, no_params, Keys, no_keys, no_block_param, single, pair, Expression, as_name, parameter, hash, block, right_tilde, skipped, params_of, keys_of, expression_of}
 use Rattle.expression.specs.Expression as spec
 use Rattle.expression.specs.Read.{ended, not_allowed, invalid_literal, over_limit, Read, done, failed, mapped, read_or, Readable}
@@ -15,21 +16,14 @@ use Rattle.expression.specs.Readers.{read_tilde, read_own_span, read_block_param
 use Rattle.expression.specs.declared.parameter.Literal as declared
 use Rattle.expression.specs.declared.parameter.Parameter.{Parameter}
 use Rattle.expression.specs.declared.parameter.Parameter.TheVariants.{Name, Path, Literal, Subexpression}
-use Rattle.expression.specs.declared.parameter.AsName.{AsName}
 use Rattle.expression.specs.declared.parameter.BlockParam.{BlockParam}
-use Rattle.expression.specs.declared.parameter.BlockParam.TheVariants.{None, Single, Pair}
+use Rattle.expression.specs.declared.parameter.BlockParam.TheVariants.{Single, Pair}
 use Rattle.expression.specs.declared.parameter.Hash.{Hash}
 use Rattle.expression.specs.declared.parameter.Part.{Part}
 use Rattle.expression.specs.declared.parameter.Parts.{Parts}
 use Rattle.expression.specs.declared.parameter.Fault.{Fault}
 use Rattle.expression.specs.declared.parameter.Fault.TheVariants.{Ended, NotAllowed, InvalidLiteral, OverLimit}
 use Rattle.expression.specs.declared.parameter.ExpressionSpec.{ExpressionSpec}
-use Rattle.expression.specs.declared.parameter.TildeRead.{TildeRead}
-use Rattle.expression.specs.declared.parameter.BlockRead.{BlockRead}
-use Rattle.expression.specs.declared.parameter.ParamRead.{ParamRead}
-use Rattle.expression.specs.declared.parameter.HashRead.{HashRead}
-use Rattle.expression.specs.declared.parameter.PartRead.{PartRead}
-use Rattle.expression.specs.declared.parameter.ExpressionRead.{ExpressionRead}
 
 -- document 01's numbers of these are 8, 8, 9 and 12 (fault_number)
 abbrev pub fault_means : Fault → spec-read.Fault
@@ -37,6 +31,11 @@ fault_means Ended = ended
 fault_means NotAllowed = not_allowed
 fault_means InvalidLiteral = invalid_literal
 fault_means OverLimit = over_limit
+
+-- what the error of a literal's check becomes
+abbrev pub literal_fault : LiteralError → Fault
+literal_fault LiteralError.Invalid = InvalidLiteral
+literal_fault LiteralError.OverLimit = OverLimit
 
 -- ---- parameters
 
@@ -64,91 +63,96 @@ ParamLinked text words (Literal l) = Unit {0}
 ParamLinked text words (Subexpression s) = Readable (read_expression false text s.depth s.limit (spans_from words s.from))
 
 -- the name, or none
-abbrev pub as_name_means : Bytes → AsName → Option Bytes
-as_name_means text (AsName.Name n) = some (name_means text n)
-as_name_means text AsName.None = none
+abbrev pub as_name_means : Bytes → std.Option json_path.Name → Option Bytes
+as_name_means text (Some n) = some (name_means text n)
+as_name_means text None = none
 
 -- r is the name that p gives
-pub record NamesIs (p : Parameter) (r : AsName) : Type 0 where
+pub record NamesIs (p : Parameter) (r : std.Option json_path.Name) : Type 0 where
   pub means : (text : Bytes) (words : List ℕ) → as_name_means text r ≡ as_name (param_means text words p)
 
 -- what was read and the spans that are left, or the fault
-abbrev pub param_read_means : Bytes → List ℕ → ParamRead → Read Param
-param_read_means text words (ParamRead.Done p next) = done (param_means text words p) (spans_from words next)
-param_read_means text words (ParamRead.Failed f) = failed (fault_means f)
+abbrev pub param_read_means : Bytes → List ℕ → Result (Parameter × ℕ) Fault → Read Param
+param_read_means text words (Ok (p, next)) = done (param_means text words p) (spans_from words next)
+param_read_means text words (Err f) = failed (fault_means f)
 
 -- the next number is not below `low`
-abbrev pub ParamNext : ℕ → ParamRead → Type 0
-ParamNext low (ParamRead.Done p next) = low ≤ next
-ParamNext low (ParamRead.Failed f) = Unit {0}
+abbrev pub ParamNext : ℕ → Result (Parameter × ℕ) Fault → Type 0
+ParamNext low (Ok (p, next)) = low ≤ next
+ParamNext low (Err f) = Unit {0}
 
 -- the parameter read can be read again
-abbrev pub ParamReadLinked : Bytes → List ℕ → ParamRead → Type 0
-ParamReadLinked text words (ParamRead.Done p next) = ParamLinked text words p
-ParamReadLinked text words (ParamRead.Failed f) = Unit {0}
+abbrev pub ParamReadLinked : Bytes → List ℕ → Result (Parameter × ℕ) Fault → Type 0
+ParamReadLinked text words (Ok (p, next)) = ParamLinked text words p
+ParamReadLinked text words (Err f) = Unit {0}
 
 -- r answers what the specification reads, o; its next number is not below `low`, and its link can be read again
-pub record ParamIs (text : Bytes) (words : List ℕ) (o : Read Param) (low : ℕ) (r : ParamRead) : Type 0 where
+pub record ParamIs (text : Bytes) (words : List ℕ) (o : Read Param) (low : ℕ) (r : Result (Parameter × ℕ) Fault) : Type 0 where
   pub reads : o ≡ param_read_means text words r
   pub onward : ParamNext low r
   pub linked : ParamReadLinked text words r
 
--- the answer for a literal, by the verdict on its text
-abbrev pub literal_read : Verdict → declared.Literal → ℕ → ParamRead
-literal_read Verdict.Valid l next = ParamRead.Done (Literal l) next
-literal_read Verdict.Invalid l next = ParamRead.Failed InvalidLiteral
-literal_read Verdict.Over l next = ParamRead.Failed OverLimit
-
 -- ---- tildes, block parameters, a parameter's own span
 
+-- the only fault is that the list ended
+abbrev pub OnlyEnded : {A : Type 0} → Result A Fault → Type 0
+OnlyEnded (Ok x) = Unit {0}
+OnlyEnded (Err f) = f ≡ Ended
+
 -- whether the tilde stands there, or the list ended
-abbrev pub tilde_read_means : List ℕ → TildeRead → Read Bool
-tilde_read_means words (TildeRead.Done left next) = done left (spans_from words next)
-tilde_read_means words TildeRead.Ended = failed ended
+abbrev pub tilde_read_means : List ℕ → Result (Bool × ℕ) Fault → Read Bool
+tilde_read_means words (Ok (left, next)) = done left (spans_from words next)
+tilde_read_means words (Err f) = failed (fault_means f)
 
 -- the next number is not below `low`
-abbrev pub TildeNext : ℕ → TildeRead → Type 0
-TildeNext low (TildeRead.Done left next) = low ≤ next
-TildeNext low TildeRead.Ended = Unit {0}
+abbrev pub TildeNext : ℕ → Result (Bool × ℕ) Fault → Type 0
+TildeNext low (Ok (left, next)) = low ≤ next
+TildeNext low (Err f) = Unit {0}
 
 -- r is the left tilde read from number `at` on
-pub record TildeIs (words : List ℕ) (at : ℕ) (r : TildeRead) : Type 0 where
+pub record TildeIs (words : List ℕ) (at : ℕ) (r : Result (Bool × ℕ) Fault) : Type 0 where
   pub reads : read_tilde (spans_from words at) ≡ tilde_read_means words r
   pub onward : TildeNext at r
+  pub faults : OnlyEnded r
+
+-- one name or two
+abbrev pub block_param_means : Bytes → BlockParam → spec.BlockParam
+block_param_means text (Single a) = single (name_means text a)
+block_param_means text (Pair a b) = pair (name_means text a) (name_means text b)
 
 -- no name, one or two
-abbrev pub block_means : Bytes → BlockParam → spec.BlockParam
+abbrev pub block_means : Bytes → std.Option BlockParam → spec.BlockParam
 block_means text None = no_block_param
-block_means text (Single a) = single (name_means text a)
-block_means text (Pair a b) = pair (name_means text a) (name_means text b)
+block_means text (Some b) = block_param_means text b
 
 -- the block parameter, or the list ended
-abbrev pub block_read_means : Bytes → List ℕ → BlockRead → Read spec.BlockParam
-block_read_means text words (BlockRead.Done b next) = done (block_means text b) (spans_from words next)
-block_read_means text words BlockRead.Ended = failed ended
+abbrev pub block_read_means : Bytes → List ℕ → Result (BlockParam × ℕ) Fault → Read spec.BlockParam
+block_read_means text words (Ok (b, next)) = done (block_param_means text b) (spans_from words next)
+block_read_means text words (Err f) = failed (fault_means f)
 
 -- the next number is above `low`
-abbrev pub BlockNext : ℕ → BlockRead → Type 0
-BlockNext low (BlockRead.Done b next) = low < next
-BlockNext low BlockRead.Ended = Unit {0}
+abbrev pub BlockNext : ℕ → Result (BlockParam × ℕ) Fault → Type 0
+BlockNext low (Ok (b, next)) = low < next
+BlockNext low (Err f) = Unit {0}
 
 -- r is the block parameter read from number `at` on, in any text
-pub record BlockIs (words : List ℕ) (limit at : ℕ) (r : BlockRead) : Type 0 where
+pub record BlockIs (words : List ℕ) (limit at : ℕ) (r : Result (BlockParam × ℕ) Fault) : Type 0 where
   pub reads : (text : Bytes) → read_block_param text limit (spans_from words at) ≡ block_read_means text words r
   pub onward : BlockNext at r
+  pub faults : OnlyEnded r
 
 -- the span, or the list ended
-abbrev pub own_read_means : List ℕ → Next → Read Span
-own_read_means words (Next.Span s) = done s (spans_from words (s.number + 1))
-own_read_means words Next.End = failed ended
+abbrev pub own_read_means : List ℕ → std.Option Span → Read Span
+own_read_means words (Some s) = done s (spans_from words (s.number + 1))
+own_read_means words None = failed ended
 
 -- the span stands in the list, not before number `low`
-abbrev pub OwnNext : List ℕ → ℕ → Next → Type 0
-OwnNext words low (Next.Span s) = (low ≤ s.number) × (s.number < span_count words)
-OwnNext words low Next.End = Unit {0}
+abbrev pub OwnNext : List ℕ → ℕ → std.Option Span → Type 0
+OwnNext words low (Some s) = (low ≤ s.number) × (s.number < span_count words)
+OwnNext words low None = Unit {0}
 
 -- r is a parameter's own span from number `at` on
-pub record OwnIs (words : List ℕ) (at : ℕ) (r : Next) : Type 0 where
+pub record OwnIs (words : List ℕ) (at : ℕ) (r : std.Option Span) : Type 0 where
   pub reads : read_own_span (spans_from words at) ≡ own_read_means words r
   pub onward : OwnNext words at r
 
@@ -159,22 +163,22 @@ abbrev pub hash_means : Bytes → List ℕ → Hash → spec.Part
 hash_means text words h = hash (name_means text h.key) (param_means text words h.value)
 
 -- what was read and the spans that are left, or the fault
-abbrev pub hash_read_means : Bytes → List ℕ → HashRead → Read spec.Part
-hash_read_means text words (HashRead.Done h next) = done (hash_means text words h) (spans_from words next)
-hash_read_means text words (HashRead.Failed f) = failed (fault_means f)
+abbrev pub hash_read_means : Bytes → List ℕ → Result (Hash × ℕ) Fault → Read spec.Part
+hash_read_means text words (Ok (h, next)) = done (hash_means text words h) (spans_from words next)
+hash_read_means text words (Err f) = failed (fault_means f)
 
 -- the next number is above `low`
-abbrev pub HashNext : ℕ → HashRead → Type 0
-HashNext low (HashRead.Done h next) = low < next
-HashNext low (HashRead.Failed f) = Unit {0}
+abbrev pub HashNext : ℕ → Result (Hash × ℕ) Fault → Type 0
+HashNext low (Ok (h, next)) = low < next
+HashNext low (Err f) = Unit {0}
 
 -- the value read can be read again
-abbrev pub HashReadLinked : Bytes → List ℕ → HashRead → Type 0
-HashReadLinked text words (HashRead.Done h next) = ParamLinked text words h.value
-HashReadLinked text words (HashRead.Failed f) = Unit {0}
+abbrev pub HashReadLinked : Bytes → List ℕ → Result (Hash × ℕ) Fault → Type 0
+HashReadLinked text words (Ok (h, next)) = ParamLinked text words h.value
+HashReadLinked text words (Err f) = Unit {0}
 
 -- r is the key and value read from number `at` on, with literals judged or not
-pub record HashIs (judged : Bool) (text : Bytes) (words : List ℕ) (depth at : ℕ) (r : HashRead) : Type 0 where
+pub record HashIs (judged : Bool) (text : Bytes) (words : List ℕ) (depth at : ℕ) (r : Result (Hash × ℕ) Fault) : Type 0 where
   pub reads : read_hash judged text depth (spans_from words at) ≡ hash_read_means text words r
   pub onward : HashNext at r
   pub linked : HashReadLinked text words r
@@ -183,7 +187,7 @@ pub record HashIs (judged : Bool) (text : Bytes) (words : List ℕ) (depth at : 
 abbrev pub part_means : Bytes → List ℕ → Part → spec.Part
 part_means text words (Part.Param p) = parameter (param_means text words p)
 part_means text words (Part.Hash h) = hash_means text words h
-part_means text words (Part.BlockParam b) = block (block_means text b)
+part_means text words (Part.BlockParam b) = block (block_param_means text b)
 part_means text words Part.RightTilde = right_tilde
 part_means text words Part.Skipped = skipped
 
@@ -212,30 +216,14 @@ pub record FirstPart (judged : Bool) (text : Bytes) (words : List ℕ) (p : Part
   pub linked : PartLinked text words x
 
 -- what each case says
-abbrev pub PartReadMeans : Bool → Bytes → List ℕ → Parts → PartRead → Type 0
-PartReadMeans judged text words p (PartRead.Part x q) = FirstPart judged text words p x q
-PartReadMeans judged text words p PartRead.End = parts_read judged text words p ≡ done [] (spans_from words p.from)
-PartReadMeans judged text words p (PartRead.Failed f) = parts_read judged text words p ≡ failed (fault_means f)
+abbrev pub PartReadMeans : Bool → Bytes → List ℕ → Parts → Result (std.Option (Part × Parts)) Fault → Type 0
+PartReadMeans judged text words p (Ok (Some (x, q))) = FirstPart judged text words p x q
+PartReadMeans judged text words p (Ok None) = parts_read judged text words p ≡ done [] (spans_from words p.from)
+PartReadMeans judged text words p (Err f) = parts_read judged text words p ≡ failed (fault_means f)
 
 -- r is the first part of p's, or says why there is none
-pub record PartIs (judged : Bool) (text : Bytes) (words : List ℕ) (p : Parts) (r : PartRead) : Type 0 where
+pub record PartIs (judged : Bool) (text : Bytes) (words : List ℕ) (p : Parts) (r : Result (std.Option (Part × Parts)) Fault) : Type 0 where
   pub means : PartReadMeans judged text words p r
-
--- the block parameter after a part: the last one is kept
-abbrev pub block_then : BlockParam → Part → BlockParam
-block_then b (Part.Param p) = b
-block_then b (Part.Hash h) = b
-block_then b (Part.BlockParam c) = c
-block_then b Part.RightTilde = b
-block_then b Part.Skipped = b
-
--- whether the right tilde is set after a part
-abbrev pub tilde_then : Bool → Part → Bool
-tilde_then t (Part.Param p) = t
-tilde_then t (Part.Hash h) = t
-tilde_then t (Part.BlockParam b) = t
-tilde_then t Part.RightTilde = true
-tilde_then t Part.Skipped = t
 
 -- ---- expressions
 
@@ -260,37 +248,37 @@ expression_means text words x = record {
 }
 
 -- what was read and the spans that are left, or the fault
-abbrev pub expression_read_means : Bytes → List ℕ → ExpressionRead → Read Expression
-expression_read_means text words (ExpressionRead.Done x) = done (expression_means text words x) (spans_from words x.next)
-expression_read_means text words (ExpressionRead.Failed f) = failed (fault_means f)
+abbrev pub expression_read_means : Bytes → List ℕ → Result ExpressionSpec Fault → Read Expression
+expression_read_means text words (Ok x) = done (expression_means text words x) (spans_from words x.next)
+expression_read_means text words (Err f) = failed (fault_means f)
 
 -- the next number is not below `low`
-abbrev pub ExpressionNext : ℕ → ExpressionRead → Type 0
-ExpressionNext low (ExpressionRead.Done x) = low ≤ x.next
-ExpressionNext low (ExpressionRead.Failed f) = Unit {0}
+abbrev pub ExpressionNext : ℕ → Result ExpressionSpec Fault → Type 0
+ExpressionNext low (Ok x) = low ≤ x.next
+ExpressionNext low (Err f) = Unit {0}
 
 -- what an expression links to can be read again
 pub record Links (text : Bytes) (words : List ℕ) (x : ExpressionSpec) : Type 0 where
   pub name : ParamLinked text words x.name
   pub parts : Readable (parts_read false text words x.parts)
 
-abbrev pub ExpressionLinked : Bytes → List ℕ → ExpressionRead → Type 0
-ExpressionLinked text words (ExpressionRead.Done x) = Links text words x
-ExpressionLinked text words (ExpressionRead.Failed f) = Unit {0}
+abbrev pub ExpressionLinked : Bytes → List ℕ → Result ExpressionSpec Fault → Type 0
+ExpressionLinked text words (Ok x) = Links text words x
+ExpressionLinked text words (Err f) = Unit {0}
 
 -- r answers what the specification reads, o; its next number is not below `low`, and its links can be read again
-pub record ExpressionIs (text : Bytes) (words : List ℕ) (o : Read Expression) (low : ℕ) (r : ExpressionRead) : Type 0 where
+pub record ExpressionIs (text : Bytes) (words : List ℕ) (o : Read Expression) (low : ℕ) (r : Result ExpressionSpec Fault) : Type 0 where
   pub reads : o ≡ expression_read_means text words r
   pub onward : ExpressionNext low r
   pub linked : ExpressionLinked text words r
 
 -- its name is n, and its parts can be read again
-abbrev pub PartsLinked : Bytes → List ℕ → Parameter → ExpressionRead → Type 0
-PartsLinked text words n (ExpressionRead.Done x) = (x.name ≡ n) × Readable (parts_read false text words x.parts)
-PartsLinked text words n (ExpressionRead.Failed f) = Unit {0}
+abbrev pub PartsLinked : Bytes → List ℕ → Parameter → Result ExpressionSpec Fault → Type 0
+PartsLinked text words n (Ok x) = (x.name ≡ n) × Readable (parts_read false text words x.parts)
+PartsLinked text words n (Err f) = Unit {0}
 
 -- r is the expression of a left tilde, a name and the parts of a link
-pub record PartsIs (judged : Bool) (text : Bytes) (words : List ℕ) (left : Bool) (n : Parameter) (p : Parts) (r : ExpressionRead) : Type 0 where
+pub record PartsIs (judged : Bool) (text : Bytes) (words : List ℕ) (left : Bool) (n : Parameter) (p : Parts) (r : Result ExpressionSpec Fault) : Type 0 where
   pub reads : mapped (expression_of left (param_means text words n)) (parts_read judged text words p) ≡ expression_read_means text words r
   pub onward : ExpressionNext p.from r
   pub linked : PartsLinked text words n r

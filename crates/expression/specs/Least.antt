@@ -1,16 +1,17 @@
 -- The least key above a bound, with its last value, as it is found in one pass over the parts.
-use Rattle.std.specs.Prelude.{ℕ, ◌≡◌, List, [], ◌∷◌}
+use Rattle.std.specs.Prelude.{ℕ, ◌≡◌, List, [], ◌∷◌, Some, None}
+use Rattle.std.specs.Prelude as std
 use Rattle.std.proofs.Math.Option.{Option, none, some}
 use Rattle.support.specs.Bytes.{Bytes, if, precedes}
 use Rattle.json_path.specs.Answers.{name_means}
+use Rattle.json_path.specs.declared.path.Name.{Name}
 use Rattle.expression.specs.Expression.{Param, Part, parameter, hash, block, right_tilde, skipped}
 use Rattle.expression.specs.Answers.{param_means, ParamLinked, part_means, PartLinked}
 use Rattle.expression.specs.Again.{bound_means, is_above}
 use Rattle.expression.specs.declared.parameter.Part as declared
 use Rattle.expression.specs.declared.parameter.Part.TheVariants as Part
-use Rattle.expression.specs.declared.again.Bound.{Bound}
-use Rattle.expression.specs.declared.again.MaybeHash.{MaybeHash}
-use Rattle.expression.specs.declared.again.MaybeParam.{MaybeParam}
+use Rattle.expression.specs.declared.parameter.Parameter.{Parameter}
+use Rattle.expression.specs.declared.parameter.Hash.{Hash}
 
 -- the lesser key of an earlier and a later one; of the same key the later
 abbrev pub lower : Option (Bytes × Param) → Option (Bytes × Param) → Option (Bytes × Param)
@@ -31,34 +32,18 @@ unfoldable pub least_of : Option Bytes → List Part → Option (Bytes × Param)
 least_of b [] = none
 least_of b (x ∷ xs) = lower (entry b x) (least_of b xs)
 
--- the key and value that a part is, if it is one
-abbrev pub hash_of : declared.Part → MaybeHash
-hash_of (Part.Param p) = MaybeHash.None
-hash_of (Part.Hash h) = MaybeHash.Hash h
-hash_of (Part.BlockParam c) = MaybeHash.None
-hash_of Part.RightTilde = MaybeHash.None
-hash_of Part.Skipped = MaybeHash.None
-
--- the parameter that a part is, if it is one
-abbrev pub param_of : declared.Part → MaybeParam
-param_of (Part.Param p) = MaybeParam.Param p
-param_of (Part.Hash h) = MaybeParam.None
-param_of (Part.BlockParam c) = MaybeParam.None
-param_of Part.RightTilde = MaybeParam.None
-param_of Part.Skipped = MaybeParam.None
-
 -- a key and its value, or none
-abbrev pub least_means : Bytes → List ℕ → MaybeHash → Option (Bytes × Param)
-least_means text words (MaybeHash.Hash h) = some (name_means text h.key, param_means text words h.value)
-least_means text words MaybeHash.None = none
+abbrev pub least_means : Bytes → List ℕ → std.Option Hash → Option (Bytes × Param)
+least_means text words (Some h) = some (name_means text h.key, param_means text words h.value)
+least_means text words None = none
 
 -- its value can be read again
-abbrev pub LeastLinked : Bytes → List ℕ → MaybeHash → Type 0
-LeastLinked text words (MaybeHash.Hash h) = ParamLinked text words h.value
-LeastLinked text words MaybeHash.None = Unit {0}
+abbrev pub LeastLinked : Bytes → List ℕ → std.Option Hash → Type 0
+LeastLinked text words (Some h) = ParamLinked text words h.value
+LeastLinked text words None = Unit {0}
 
 -- r is the lesser of `least` and the key that x gives
-pub record LeastIs (text : Bytes) (b : Bound) (least : MaybeHash) (x : declared.Part) (r : MaybeHash) : Type 0 where
+pub record LeastIs (text : Bytes) (b : std.Option Name) (least : std.Option Hash) (x : declared.Part) (r : std.Option Hash) : Type 0 where
   pub means : (words : List ℕ)
       → least_means text words r ≡ lower (least_means text words least) (entry (bound_means text b) (part_means text words x))
   pub linked : (words : List ℕ) → LeastLinked text words least → PartLinked text words x → LeastLinked text words r

@@ -5,99 +5,30 @@ ghost use Rattle.std.specs.Prelude.{◌≡◌};
 ghost use Rattle.support.specs.Bytes.{precedes};
 ghost use Rattle.json_path.specs.Answers.{name_means};
 ghost use Rattle.expression.specs.Again.{ParamStepIs, KeyStepIs, SubexpressionIs, bound_means, is_above};
-ghost use Rattle.expression.specs.Least.{hash_of, param_of, LeastIs};
+ghost use Rattle.expression.specs.Least.{LeastIs};
 
-use crate::parameter::{
-    ExpressionRead, Fault, Hash, Parameter, Part, PartRead, Parts, Subexpression,
-};
+use crate::parameter::{ExpressionSpec, Fault, Hash, Parameter, Part, Parts, Subexpression};
 use crate::parse::{next_part, parse_expression};
 use json_path::path::Name;
 use support::bytes::{part, precedes};
 
-// The first parameter of a link's parts and the link to the parts after it, or there is none, or a
-// part before it cannot be read.
-#[derive(Clone, Copy)]
-pub enum ParamStep {
-    Param(Parameter, Parts),
-    End,
-    Failed(Fault),
-}
-
-// Every key, or those that stand after a name in byte order.
-#[derive(Clone, Copy)]
-pub enum Bound {
-    None,
-    Above(Name),
-}
-
-// The first key above a bound (the others are those above it), or there is none, or a part cannot be
-// read.
-#[derive(Clone, Copy)]
-pub enum KeyStep {
-    Key(Hash),
-    End,
-    Failed(Fault),
-}
-
-#[derive(Clone, Copy)]
-enum MaybeParam {
-    Param(Parameter),
-    None,
-}
-
-#[derive(Clone, Copy)]
-enum MaybeHash {
-    Hash(Hash),
-    None,
-}
-
-fn param_of(x: Part) -> MaybeParam
-    ensures { result ≡ param_of x }
-{
-    match x {
-        Part::Param(p) => MaybeParam::Param(p),
-        Part::Hash(_) => MaybeParam::None,
-        Part::BlockParam(_) => MaybeParam::None,
-        Part::RightTilde => MaybeParam::None,
-        Part::Skipped => MaybeParam::None,
-    }
-}
-
-fn hash_of(x: Part) -> MaybeHash
-    ensures { result ≡ hash_of x }
-{
-    match x {
-        Part::Param(_) => MaybeHash::None,
-        Part::Hash(h) => MaybeHash::Hash(h),
-        Part::BlockParam(_) => MaybeHash::None,
-        Part::RightTilde => MaybeHash::None,
-        Part::Skipped => MaybeHash::None,
-    }
-}
-
-// The first parameter of a link's parts.
-pub fn next_param(text: &[u8], words: &[u32], parts: Parts) -> ParamStep
+// The first parameter of a link's parts and the link to the parts after it, or there is none. A part
+// before it that cannot be read is a fault.
+pub fn next_param(
+    text: &[u8],
+    words: &[u32],
+    parts: Parts,
+) -> Result<Option<(Parameter, Parts)>, Fault>
     ensures { ParamStepIs text.now words.now parts result }
 {
     let mut rest = parts;
-    loop {
-        let p = next_part(text, words, rest, false);
-        match p {
-            PartRead::Part(x, after) => {
-                let given = param_of(x);
-                if let MaybeParam::Param(v) = given {
-                    return ParamStep::Param(v, after);
-                }
-                rest = after;
-            }
-            PartRead::End => {
-                return ParamStep::End;
-            }
-            PartRead::Failed(f) => {
-                return ParamStep::Failed(f);
-            }
+    while let Some((x, after)) = next_part(text, words, rest, false)? {
+        if let Part::Param(v) = x {
+            return Ok(Some((v, after)));
         }
+        rest = after;
     }
+    Ok(None)
 }
 
 // `a` stands before `b` in byte order.
@@ -107,66 +38,54 @@ fn stands_before(text: &[u8], a: Name, b: Name) -> bool
     precedes(part(text, a.start, a.end), part(text, b.start, b.end))
 }
 
-fn is_above(text: &[u8], bound: Bound, key: Name) -> bool
+// Without a bound every key is above it.
+fn is_above(text: &[u8], bound: Option<Name>, key: Name) -> bool
     ensures { result ≡ is_above (bound_means text.now bound) (name_means text.now key) }
 {
-    let Bound::Above(b) = bound else {
-        return true;
-    };
-    stands_before(text, b, key)
+    match bound {
+        Some(b) => stands_before(text, b, key),
+        None => true,
+    }
 }
 
 // The least key above the bound after one more part; of the same key the later.
-fn least_then(text: &[u8], bound: Bound, least: MaybeHash, x: Part) -> MaybeHash
+fn least_then(text: &[u8], bound: Option<Name>, least: Option<Hash>, x: Part) -> Option<Hash>
     ensures { LeastIs text.now bound least x result }
 {
-    let found = hash_of(x);
-    let MaybeHash::Hash(h) = found else {
+    let Part::Hash(h) = x else {
         return least;
     };
-    let key = h.key;
-    let above = is_above(text, bound, key);
-    if !above {
+    if !is_above(text, bound, h.key) {
         return least;
     }
-    let MaybeHash::Hash(l) = least else {
-        return found;
-    };
-    let old = l.key;
-    if stands_before(text, old, key) {
-        return least;
+    match least {
+        Some(l) if stands_before(text, l.key, h.key) => least,
+        _ => Some(h),
     }
-    found
 }
 
-// The least key above the bound, with its last value: one pass over the link's parts.
-pub fn next_key(text: &[u8], words: &[u32], parts: Parts, bound: Bound) -> KeyStep
+// The first key above a bound, with its last value: one pass over the link's parts. The others are
+// those above it.
+pub fn next_key(
+    text: &[u8],
+    words: &[u32],
+    parts: Parts,
+    bound: Option<Name>,
+) -> Result<Option<Hash>, Fault>
     ensures { KeyStepIs text.now words.now parts bound result }
 {
     let mut rest = parts;
-    let mut least = MaybeHash::None;
-    loop {
-        let p = next_part(text, words, rest, false);
-        match p {
-            PartRead::Part(x, after) => {
-                least = least_then(text, bound, least, x);
-                rest = after;
-            }
-            PartRead::End => {
-                let MaybeHash::Hash(h) = least else {
-                    return KeyStep::End;
-                };
-                return KeyStep::Key(h);
-            }
-            PartRead::Failed(f) => {
-                return KeyStep::Failed(f);
-            }
-        }
+    let mut least = None;
+    while let Some((x, after)) = next_part(text, words, rest, false)? {
+        least = least_then(text, bound, least, x);
+        rest = after;
     }
+    Ok(least)
 }
 
 // The expression of a subexpression's link.
-pub fn enter(text: &[u8], words: &[u32], s: Subexpression) -> ExpressionRead
+#[tactic(auto, unfolding(crate::specs::Answers::param_means, crate::specs::Answers::expression_means))]
+pub fn enter(text: &[u8], words: &[u32], s: Subexpression) -> Result<ExpressionSpec, Fault>
     ensures { SubexpressionIs text.now words.now s result }
 {
     parse_expression(text, words, s.from, s.limit, s.depth, false)

@@ -1,7 +1,9 @@
 // What parameters, expressions and their parts are made of: offsets into the text, and links.
-ghost use Rattle.expression.specs.Answers.{NamesIs};
+ghost use Rattle.std.specs.Prelude.{◌≡◌};
+ghost use Rattle.expression.specs.Answers.{literal_fault, NamesIs};
 
 use json_path::path::{Name, Path};
+use literal::check::LiteralError;
 
 // A literal's text: the text from `start` to `end`, or, if `quoted`, what that inner text of single
 // quotes stands for.
@@ -36,7 +38,6 @@ pub enum Parameter {
 
 #[derive(Clone, Copy)]
 pub enum BlockParam {
-    None,
     Single(Name),
     Pair(Name, Name),
 }
@@ -67,12 +68,23 @@ pub struct Parts {
 }
 
 // Why an expression is turned away: 8, 8, 9 and 12.
-#[derive(Clone, Copy)]
+#[derive(Clone, Copy, Debug, PartialEq, Eq)]
 pub enum Fault {
     Ended,
     NotAllowed,
     InvalidLiteral,
     OverLimit,
+}
+
+impl From<LiteralError> for Fault {
+    ghost from_gives = { λ e f. f ≡ literal_fault e };
+
+    fn from(e: LiteralError) -> Fault {
+        match e {
+            LiteralError::Invalid => Fault::InvalidLiteral,
+            LiteralError::OverLimit => Fault::OverLimit,
+        }
+    }
 }
 
 // An expression: left tilde, name, its parts behind the name; of these the last block parameter and
@@ -82,77 +94,28 @@ pub struct ExpressionSpec {
     pub omit_pre_ws: bool,
     pub name: Parameter,
     pub parts: Parts,
-    pub block_param: BlockParam,
+    pub block_param: Option<BlockParam>,
     pub omit_pro_ws: bool,
     pub next: usize,
 }
 
-// Whether the left tilde stands there, and the number from which the spans after it are.
-#[derive(Clone, Copy)]
-pub enum TildeRead {
-    Done(bool, usize),
-    Ended,
-}
-
-// In this and the next two: what was read, and the number from which the spans after it are.
-#[derive(Clone, Copy)]
-pub enum BlockRead {
-    Done(BlockParam, usize),
-    Ended,
-}
-
-#[derive(Clone, Copy)]
-pub enum ParamRead {
-    Done(Parameter, usize),
-    Failed(Fault),
-}
-
-#[derive(Clone, Copy)]
-pub enum HashRead {
-    Done(Hash, usize),
-    Failed(Fault),
-}
-
-// The first part of a link's and the link to the others, or there is none, or it cannot be read.
-#[derive(Clone, Copy)]
-pub enum PartRead {
-    Part(Part, Parts),
-    End,
-    Failed(Fault),
-}
-
-#[derive(Clone, Copy)]
-pub enum ExpressionRead {
-    Done(ExpressionSpec),
-    Failed(Fault),
-}
-
-// The name that a parameter gives, or none.
-#[derive(Clone, Copy)]
-pub enum AsName {
-    Name(Name),
-    None,
-}
-
 impl Parameter {
     // A path's name is its raw text; a literal and a subexpression have none.
-    pub fn as_name(self) -> AsName
+    #[tactic(auto, unfolding(crate::specs::Answers::param_means))]
+    pub fn as_name(self) -> Option<Name>
         ensures { NamesIs self result }
     {
         match self {
-            Parameter::Name(n) => AsName::Name(n),
-            Parameter::Path(p) => match p {
-                Path::Relative(q) => AsName::Name(Name {
-                    start: q.start,
-                    end: q.end,
-                }),
-                Path::Local(l) => AsName::Name(Name {
-                    start: l.start,
-                    end: l.end,
-                }),
-            },
-            Parameter::Literal(_) => AsName::None,
-            Parameter::Subexpression(_) => AsName::None,
+            Parameter::Name(n) => Some(n),
+            Parameter::Path(Path::Relative(p)) => Some(Name {
+                start: p.start,
+                end: p.end,
+            }),
+            Parameter::Path(Path::Local(p)) => Some(Name {
+                start: p.start,
+                end: p.end,
+            }),
+            _ => None,
         }
     }
 }

@@ -1,219 +1,177 @@
 // The readers of names, parameters, keys, parts, expressions and subexpressions. They call each other
 // in a cycle: an expression holds parameters, and a parameter may hold an expression. At each turn of
-// the cycle fewer spans remain, and in a subexpression less depth. `judged` says whether literals are
-// judged: they are where a tag is walked, and not again where what was read is read again.
-ghost use Rattle.std.specs.Prelude.{◌≡◌, ◌+◌, ◌<◌, length};
+// the cycle fewer spans remain, and in a subexpression less depth. Each answers what it read and the
+// number from which the spans after it are, or why not. `judged` says whether literals are judged:
+// they are where a tag is walked, and not again where what was read is read again.
+ghost use Rattle.std.specs.Prelude.{◌+◌, ◌<◌, length};
 ghost use Rattle.json_path.specs.Span.{spans_from};
 ghost use Rattle.expression.specs.Readers.{read_name, read_subexpression, read_param, read_value, read_expression};
-ghost use Rattle.expression.specs.Answers.{TildeIs, BlockIs, ParamIs, HashIs, PartIs, ExpressionIs, PartsIs, parts_at, block_then, tilde_then};
+ghost use Rattle.expression.specs.Answers.{TildeIs, BlockIs, ParamIs, HashIs, PartIs, ExpressionIs, PartsIs};
 
 use crate::parameter::{
-    BlockParam, BlockRead, ExpressionRead, ExpressionSpec, Fault, Hash, HashRead, ParamRead,
-    Parameter, Part, PartRead, Parts, Subexpression, TildeRead,
+    BlockParam, ExpressionSpec, Fault, Hash, Parameter, Part, Parts, Subexpression,
 };
 use crate::value::{own_span, parse_literal, parse_path};
 use json_path::path::Name;
-use json_path::span::{Next, Span, next_span, skip_to};
+use json_path::span::{Span, next_span, skip_to};
 
 // A left tilde, if there is one.
-pub fn parse_tilde(words: &[u32], at: usize) -> TildeRead
+pub fn parse_tilde(words: &[u32], at: usize) -> Result<(bool, usize), Fault>
     ensures { TildeIs words.now at result }
 {
-    let n = next_span(words, at);
-    let Next::Span(s) = n else {
-        return TildeRead::Ended;
-    };
+    let s = next_span(words, at).ok_or(Fault::Ended)?;
     if s.tag == 34 {
-        return TildeRead::Done(true, s.number + 1);
+        return Ok((true, s.number + 1));
     }
-    TildeRead::Done(false, at)
+    Ok((false, at))
 }
 
 // A span as block parameter, and a second if it does not end past the limit, tag 33's end.
-pub fn parse_block_param(words: &[u32], at: usize, limit: usize) -> BlockRead
+#[tactic(auto, unfolding(crate::specs::Readers::read_block_param, crate::specs::Readers::read_second))]
+pub fn parse_block_param(
+    words: &[u32],
+    at: usize,
+    limit: usize,
+) -> Result<(BlockParam, usize), Fault>
     ensures { BlockIs words.now limit at result }
 {
-    let n = next_span(words, at);
-    let Next::Span(a) = n else {
-        return BlockRead::Ended;
-    };
+    let a = next_span(words, at).ok_or(Fault::Ended)?;
     let first = Name {
         start: a.start,
         end: a.end,
     };
-    let m = next_span(words, a.number + 1);
-    let Next::Span(b) = m else {
-        return BlockRead::Done(BlockParam::Single(first), a.number + 1);
-    };
-    if limit < b.end {
-        return BlockRead::Done(BlockParam::Single(first), a.number + 1);
+    match next_span(words, a.number + 1) {
+        Some(b) if b.end <= limit => {
+            let second = Name {
+                start: b.start,
+                end: b.end,
+            };
+            Ok((BlockParam::Pair(first, second), b.number + 1))
+        }
+        _ => Ok((BlockParam::Single(first), a.number + 1)),
     }
-    let second = Name {
-        start: b.start,
-        end: b.end,
-    };
-    BlockRead::Done(BlockParam::Pair(first, second), b.number + 1)
 }
 
 // A name: tags 21 to 25, or a path, or a subexpression.
 #[cycle(readers)]
-pub fn parse_name(text: &[u8], words: &[u32], at: usize, depth: usize, judged: bool) -> ParamRead
+#[tactic(auto, using(crate::proofs::Equations::name_end, crate::proofs::Equations::name_next), unfolding(crate::specs::Answers::param_means))]
+pub fn parse_name(
+    text: &[u8],
+    words: &[u32],
+    at: usize,
+    depth: usize,
+    judged: bool,
+) -> Result<(Parameter, usize), Fault>
     ensures { ParamIs text.now words.now (read_name judged text.now depth (spans_from words.now at)) (at + 1) result }
 {
-    let n = next_span(words, at);
-    let Next::Span(s) = n else {
-        return ParamRead::Failed(Fault::Ended);
-    };
-    let tag = s.tag;
-    match tag {
-        21..=25 => ParamRead::Done(
-            Parameter::Name(Name {
+    let s = next_span(words, at).ok_or(Fault::Ended)?;
+    match s.tag {
+        21..=25 => {
+            let name = Name {
                 start: s.start,
                 end: s.end,
-            }),
-            s.number + 1,
-        ),
-        26 => parse_path(text, words, s, s.number + 1),
+            };
+            Ok((Parameter::Name(name), s.number + 1))
+        }
+        26 => Ok(parse_path(text, words, s, s.number + 1)),
         27 => parse_subexpression(text, words, s.number + 1, s.end, depth, judged),
-        _ => ParamRead::Failed(Fault::NotAllowed),
+        _ => Err(Fault::NotAllowed),
     }
 }
 
 // A parameter from its own span.
 #[cycle(readers)]
-fn parse_value(text: &[u8], words: &[u32], s: Span, depth: usize, judged: bool) -> ParamRead
+fn parse_value(
+    text: &[u8],
+    words: &[u32],
+    s: Span,
+    depth: usize,
+    judged: bool,
+) -> Result<(Parameter, usize), Fault>
     requires { s.number < length words.now }
     ensures { ParamIs text.now words.now (read_value judged text.now depth s (spans_from words.now (s.number + 1))) (s.number + 1) result }
 {
-    let tag = s.tag;
-    match tag {
-        26 => parse_path(text, words, s, s.number + 1),
+    match s.tag {
+        26 => Ok(parse_path(text, words, s, s.number + 1)),
         27 => parse_subexpression(text, words, s.number + 1, s.end, depth, judged),
         29 => parse_literal(text, words, s, s.number + 1, judged),
-        _ => ParamRead::Failed(Fault::NotAllowed),
+        _ => Err(Fault::NotAllowed),
     }
 }
 
 // A parameter. When read, it skips the spans that end no later than its own.
 #[cycle(readers)]
-pub fn parse_param(text: &[u8], words: &[u32], at: usize, depth: usize, judged: bool) -> ParamRead
+#[tactic(auto, using(crate::proofs::Equations::param_eq))]
+pub fn parse_param(
+    text: &[u8],
+    words: &[u32],
+    at: usize,
+    depth: usize,
+    judged: bool,
+) -> Result<(Parameter, usize), Fault>
     ensures { ParamIs text.now words.now (read_param judged text.now depth (spans_from words.now at)) (at + 1) result }
 {
-    let n = own_span(words, at);
-    let Next::Span(s) = n else {
-        return ParamRead::Failed(Fault::Ended);
-    };
-    let v = parse_value(text, words, s, depth, judged);
-    let ParamRead::Done(parameter, next) = v else {
-        return v;
-    };
-    let after = skip_to(words, s.end, next);
-    ParamRead::Done(parameter, after)
+    let s = own_span(words, at).ok_or(Fault::Ended)?;
+    let (parameter, next) = parse_value(text, words, s, depth, judged)?;
+    Ok((parameter, skip_to(words, s.end, next)))
 }
 
 // A span as key, and then a parameter.
 #[cycle(readers)]
-pub fn parse_hash(text: &[u8], words: &[u32], at: usize, depth: usize, judged: bool) -> HashRead
+pub fn parse_hash(
+    text: &[u8],
+    words: &[u32],
+    at: usize,
+    depth: usize,
+    judged: bool,
+) -> Result<(Hash, usize), Fault>
     ensures { HashIs judged text.now words.now depth at result }
 {
-    let n = next_span(words, at);
-    let Next::Span(k) = n else {
-        return HashRead::Failed(Fault::Ended);
+    let k = next_span(words, at).ok_or(Fault::Ended)?;
+    let key = Name {
+        start: k.start,
+        end: k.end,
     };
-    let p = parse_param(text, words, k.number + 1, depth, judged);
-    match p {
-        ParamRead::Done(value, next) => HashRead::Done(
-            Hash {
-                key: Name {
-                    start: k.start,
-                    end: k.end,
-                },
-                value: value,
-            },
-            next,
-        ),
-        ParamRead::Failed(f) => HashRead::Failed(f),
-    }
+    let (value, next) = parse_param(text, words, k.number + 1, depth, judged)?;
+    Ok((Hash { key, value }, next))
 }
 
-// A part, and the link to those from span number `next` on.
-fn part_then(parts: Parts, part: Part, next: usize) -> PartRead
-    ensures { result ≡ PartRead.Part part (parts_at parts next) }
-{
-    PartRead::Part(
-        part,
-        Parts {
-            from: next,
-            limit: parts.limit,
-            depth: parts.depth,
-        },
-    )
-}
-
-// The first part of a link's. There is none at the end of the list, and none from a span on whose end
-// is at or past the limit.
+// The first part of a link's and the link to the others. There is none at the end of the list, and
+// none from a span on whose end is at or past the limit.
 #[cycle(readers)]
-pub fn next_part(text: &[u8], words: &[u32], parts: Parts, judged: bool) -> PartRead
+#[tactic(auto, using(crate::proofs::Equations::parts_none, crate::proofs::Equations::parts_stop, crate::proofs::Equations::parts_next))]
+pub fn next_part(
+    text: &[u8],
+    words: &[u32],
+    parts: Parts,
+    judged: bool,
+) -> Result<Option<(Part, Parts)>, Fault>
     ensures { PartIs judged text.now words.now parts result }
 {
-    let n = next_span(words, parts.from);
-    let Next::Span(s) = n else {
-        return PartRead::End;
+    let Some(s) = next_span(words, parts.from) else {
+        return Ok(None);
     };
     if parts.limit <= s.end {
-        return PartRead::End;
+        return Ok(None);
     }
-    let tag = s.tag;
-    match tag {
+    let at = s.number + 1;
+    let (part, from) = match s.tag {
         28 => {
-            let p = parse_param(text, words, s.number + 1, parts.depth, judged);
-            match p {
-                ParamRead::Done(v, next) => part_then(parts, Part::Param(v), next),
-                ParamRead::Failed(f) => PartRead::Failed(f),
-            }
+            let (v, next) = parse_param(text, words, at, parts.depth, judged)?;
+            (Part::Param(v), next)
         }
         32 => {
-            let h = parse_hash(text, words, s.number + 1, parts.depth, judged);
-            match h {
-                HashRead::Done(v, next) => part_then(parts, Part::Hash(v), next),
-                HashRead::Failed(f) => PartRead::Failed(f),
-            }
+            let (v, next) = parse_hash(text, words, at, parts.depth, judged)?;
+            (Part::Hash(v), next)
         }
         33 => {
-            let b = parse_block_param(words, s.number + 1, s.end);
-            let BlockRead::Done(v, next) = b else {
-                return PartRead::Failed(Fault::Ended);
-            };
-            part_then(parts, Part::BlockParam(v), next)
+            let (v, next) = parse_block_param(words, at, s.end)?;
+            (Part::BlockParam(v), next)
         }
-        35 => part_then(parts, Part::RightTilde, s.number + 1),
-        _ => part_then(parts, Part::Skipped, s.number + 1),
-    }
-}
-
-// The block parameter after a part: the last one is kept.
-fn block_then(block: BlockParam, part: Part) -> BlockParam
-    ensures { result ≡ block_then block part }
-{
-    match part {
-        Part::BlockParam(b) => b,
-        Part::Param(_) => block,
-        Part::Hash(_) => block,
-        Part::RightTilde => block,
-        Part::Skipped => block,
-    }
-}
-
-fn tilde_then(right: bool, part: Part) -> bool
-    ensures { result ≡ tilde_then right part }
-{
-    match part {
-        Part::RightTilde => true,
-        Part::Param(_) => right,
-        Part::Hash(_) => right,
-        Part::BlockParam(_) => right,
-        Part::Skipped => right,
-    }
+        35 => (Part::RightTilde, at),
+        _ => (Part::Skipped, at),
+    };
+    Ok(Some((part, Parts { from, ..parts })))
 }
 
 // The expression of a left tilde, a name and its parts: all parts are read, and of them only the
@@ -226,39 +184,33 @@ fn parse_parts(
     name: Parameter,
     parts: Parts,
     judged: bool,
-) -> ExpressionRead
+) -> Result<ExpressionSpec, Fault>
     ensures { PartsIs judged text.now words.now left name parts result }
 {
     let mut rest = parts;
-    let mut block = BlockParam::None;
+    let mut block = None;
     let mut right = false;
-    loop {
-        let p = next_part(text, words, rest, judged);
-        match p {
-            PartRead::Part(part, after) => {
-                block = block_then(block, part);
-                right = tilde_then(right, part);
-                rest = after;
-            }
-            PartRead::End => {
-                return ExpressionRead::Done(ExpressionSpec {
-                    omit_pre_ws: left,
-                    name: name,
-                    parts: parts,
-                    block_param: block,
-                    omit_pro_ws: right,
-                    next: rest.from,
-                });
-            }
-            PartRead::Failed(f) => {
-                return ExpressionRead::Failed(f);
-            }
+    while let Some((part, after)) = next_part(text, words, rest, judged)? {
+        match part {
+            Part::BlockParam(b) => block = Some(b),
+            Part::RightTilde => right = true,
+            _ => {}
         }
+        rest = after;
     }
+    Ok(ExpressionSpec {
+        omit_pre_ws: left,
+        name,
+        parts,
+        block_param: block,
+        omit_pro_ws: right,
+        next: rest.from,
+    })
 }
 
 // An expression: tag 34 or not, a name, and its parts up to the limit.
 #[cycle(readers)]
+#[tactic(auto, using(crate::proofs::Equations::expression_eq))]
 pub fn parse_expression(
     text: &[u8],
     words: &[u32],
@@ -266,33 +218,18 @@ pub fn parse_expression(
     limit: usize,
     depth: usize,
     judged: bool,
-) -> ExpressionRead
+) -> Result<ExpressionSpec, Fault>
     ensures { ExpressionIs text.now words.now (read_expression judged text.now depth limit (spans_from words.now at)) at result }
 {
-    let t = parse_tilde(words, at);
-    let TildeRead::Done(left, start) = t else {
-        return ExpressionRead::Failed(Fault::Ended);
-    };
-    let p = parse_name(text, words, start, depth, judged);
-    match p {
-        ParamRead::Done(name, next) => parse_parts(
-            text,
-            words,
-            left,
-            name,
-            Parts {
-                from: next,
-                limit: limit,
-                depth: depth,
-            },
-            judged,
-        ),
-        ParamRead::Failed(f) => ExpressionRead::Failed(f),
-    }
+    let (left, start) = parse_tilde(words, at)?;
+    let (name, from) = parse_name(text, words, start, depth, judged)?;
+    let parts = Parts { from, limit, depth };
+    parse_parts(text, words, left, name, parts, judged)
 }
 
 // A subexpression, behind its tag 27 that ends at the limit: one fewer may be opened inside it.
 #[cycle(readers)]
+#[tactic(auto, using(crate::proofs::Equations::subexpression_deep, crate::proofs::Equations::subexpression_inside))]
 pub fn parse_subexpression(
     text: &[u8],
     words: &[u32],
@@ -300,23 +237,18 @@ pub fn parse_subexpression(
     limit: usize,
     depth: usize,
     judged: bool,
-) -> ParamRead
+) -> Result<(Parameter, usize), Fault>
     ensures { ParamIs text.now words.now (read_subexpression judged text.now depth limit (spans_from words.now at)) at result }
 {
     if depth == 0 {
-        return ParamRead::Failed(Fault::OverLimit);
+        return Err(Fault::OverLimit);
     }
     let inside = depth - 1;
-    let x = parse_expression(text, words, at, limit, inside, judged);
-    match x {
-        ExpressionRead::Done(e) => ParamRead::Done(
-            Parameter::Subexpression(Subexpression {
-                from: at,
-                limit: limit,
-                depth: inside,
-            }),
-            e.next,
-        ),
-        ExpressionRead::Failed(f) => ParamRead::Failed(f),
-    }
+    let x = parse_expression(text, words, at, limit, inside, judged)?;
+    let link = Subexpression {
+        from: at,
+        limit,
+        depth: inside,
+    };
+    Ok((Parameter::Subexpression(link), x.next))
 }

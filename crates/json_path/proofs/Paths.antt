@@ -3,7 +3,7 @@
 use Prim.Native.Nat.{ℕ}
 use mathlib.Core.Path.{◌≡◌, refl, sym, ap, ◌∙◌}
 use mathlib.Core.List.{List, ◌∷◌}
-use mathlib.Core.Option.{Option, none, some}
+use Rattle.std.specs.Prelude.{Option, Some, None}
 use Rattle.support.specs.Bytes.{Bytes}
 use Rattle.json_path.specs.Path.{Segment, raw_text, local_name, path_of}
 use Rattle.json_path.specs.Answers.{segment_means, segments_mean, Traversed, ended, step, raw_means, path_means}
@@ -17,8 +17,8 @@ unfolding path_of
 raw_kept raw ss = go (local_name ss) refl
   where
     go : (o : Option (ℕ × Bytes)) → local_name ss ≡ o → raw_text (path_of raw ss) ≡ raw
-    go none e = rw (e, path_of)
-    go (some p) e = rw (e, path_of)
+    go None e = rw (e, path_of)
+    go (Some p) e = rw (e, path_of)
 
 -- the raw text of a value of the code is that of the path it denotes
 pub raw_denoted : (text : Bytes) (words : List ℕ) (p : Path) → raw_means text p ≡ raw_text (path_means text words p)

@@ -1,21 +1,15 @@
 -- What the answers of the code mean: each case of an enum in terms of the lists of specs/Span and specs/Path.
-use Rattle.std.specs.Prelude.{ℕ, ◌+◌, ◌≤◌, ◌<◌, ◌≡◌, List, [], ◌∷◌}
-use Rattle.std.proofs.Math.Option.{Option, none, some}
+use Rattle.std.specs.Prelude.{ℕ, ◌+◌, ◌≤◌, ◌<◌, ◌≡◌, List, [], ◌∷◌, Option, Some, None, option_map}
 use Rattle.support.specs.Bytes.{Bytes, part}
 use Rattle.json_path.specs.Span.{Span, span_count, span_at, spans_from, escapes_from, skip_to}
 use Rattle.json_path.specs.Path.{Segment, named, root, here, up, relative, local, segments_to, path_at}
 use Rattle.json_path.specs.Path as spec
-use Rattle.json_path.specs.declared.span.Next.{Next}
-use Rattle.json_path.specs.declared.span.Escape.{Escape}
 use Rattle.json_path.specs.declared.path.Name.{Name}
 use Rattle.json_path.specs.declared.path.PathSeg.{PathSeg}
 use Rattle.json_path.specs.declared.path.PathSeg.TheVariants.{Named, Root, Here, Up}
 use Rattle.json_path.specs.declared.path.Relative.{Relative}
 use Rattle.json_path.specs.declared.path.Path.{Path}
 use Rattle.json_path.specs.declared.path.PathRead.{PathRead}
-use Rattle.json_path.specs.declared.path.SegmentRead.{SegmentRead}
-use Rattle.json_path.specs.declared.path.Given.{Given}
-use Rattle.json_path.specs.declared.path.LocalName.{LocalName}
 
 -- ---- spans
 
@@ -28,12 +22,12 @@ pub record Walked (words : List ℕ) (k : ℕ) (s : Span) : Type 0 where
   pub inside : s.number < span_count words
 
 -- the span is the next walked one; at the end none is left
-abbrev pub NextMeans : List ℕ → ℕ → Next → Type 0
-NextMeans words k (Next.Span s) = Walked words k s
-NextMeans words k Next.End = spans_from words k ≡ []
+abbrev pub NextMeans : List ℕ → ℕ → Option Span → Type 0
+NextMeans words k (Some s) = Walked words k s
+NextMeans words k None = spans_from words k ≡ []
 
 -- r answers for the walked spans from number k on
-pub record NextIs (words : List ℕ) (k : ℕ) (r : Next) : Type 0 where
+pub record NextIs (words : List ℕ) (k : ℕ) (r : Option Span) : Type 0 where
   pub means : NextMeans words k r
 
 -- s is the first of the escapes from number k on
@@ -44,12 +38,12 @@ pub record Escapes (words : List ℕ) (k : ℕ) (s : Span) : Type 0 where
   pub inside : k < span_count words
 
 -- the span is the escape at number k; else no escape stands there
-abbrev pub EscapeMeans : List ℕ → ℕ → Escape → Type 0
-EscapeMeans words k (Escape.Found s) = Escapes words k s
-EscapeMeans words k Escape.None = escapes_from words k ≡ []
+abbrev pub EscapeMeans : List ℕ → ℕ → Option Span → Type 0
+EscapeMeans words k (Some s) = Escapes words k s
+EscapeMeans words k None = escapes_from words k ≡ []
 
 -- r answers for the escapes from number k on
-pub record EscapeIs (words : List ℕ) (k : ℕ) (r : Escape) : Type 0 where
+pub record EscapeIs (words : List ℕ) (k : ℕ) (r : Option Span) : Type 0 where
   pub means : EscapeMeans words k r
 
 -- the spans from number r on follow those, from number k on, whose end is not beyond the limit
@@ -71,14 +65,12 @@ segment_means text Here = here
 segment_means text Up = up
 
 -- what a span gives: a segment, or none
-abbrev pub given_means : Bytes → Given → Option Segment
-given_means text (Given.Segment g) = some (segment_means text g)
-given_means text Given.None = none
+abbrev pub given_means : Bytes → Option PathSeg → Option Segment
+given_means text o = option_map (segment_means text) o
 
 -- the level and the name of a local path, or none
-abbrev pub local_means : Bytes → LocalName → Option (ℕ × Bytes)
-local_means text (LocalName.Local level n) = some (level, name_means text n)
-local_means text LocalName.None = none
+abbrev pub local_means : Bytes → Option (ℕ × Name) → Option (ℕ × Bytes)
+local_means text o = option_map (λ l. (l.0, name_means text l.1)) o
 
 -- the segments of a relative path
 abbrev pub segments_mean : Bytes → List ℕ → Relative → List Segment
@@ -92,18 +84,18 @@ pub record Segments (text : Bytes) (words : List ℕ) (p : Relative) (g : PathSe
   pub inside : q.from ≤ span_count words
 
 -- the first segment and the path of the others; at the end none is left
-abbrev pub SegmentReadMeans : Bytes → List ℕ → Relative → SegmentRead → Type 0
-SegmentReadMeans text words p (SegmentRead.Segment g q) = Segments text words p g q
-SegmentReadMeans text words p SegmentRead.End = segments_mean text words p ≡ []
+abbrev pub SegmentReadMeans : Bytes → List ℕ → Relative → Option (PathSeg × Relative) → Type 0
+SegmentReadMeans text words p (Some (g, q)) = Segments text words p g q
+SegmentReadMeans text words p None = segments_mean text words p ≡ []
 
 -- r answers for the segments of p
-pub record SegmentIs (text : Bytes) (words : List ℕ) (p : Relative) (r : SegmentRead) : Type 0 where
+pub record SegmentIs (text : Bytes) (words : List ℕ) (p : Relative) (r : Option (PathSeg × Relative)) : Type 0 where
   pub means : SegmentReadMeans text words p r
 
 -- asking for one segment of p after the other, up to the end, answers these
 pub data Traversed (text : Bytes) (words : List ℕ) : Relative → List Segment → Type 0 where
-  ended : {p : Relative} → SegmentIs text words p SegmentRead.End → Traversed text words p []
-  step : {p q : Relative} {g : PathSeg} {ss : List Segment} → SegmentIs text words p (SegmentRead.Segment g q) → Traversed text words q ss → Traversed text words p (segment_means text g ∷ ss)
+  ended : {p : Relative} → SegmentIs text words p None → Traversed text words p []
+  step : {p q : Relative} {g : PathSeg} {ss : List Segment} → SegmentIs text words p (Some (g, q)) → Traversed text words q ss → Traversed text words p (segment_means text g ∷ ss)
 
 -- the raw text of a path
 abbrev pub raw_means : Bytes → Path → Bytes

@@ -3,7 +3,7 @@ ghost use Rattle.std.specs.Prelude.{◌≡◌};
 ghost use Rattle.json_path.specs.Path.{segment_of, ups_and_name, local_name, path_of};
 ghost use Rattle.json_path.specs.Answers.{given_means, local_means, raw_means, segments_mean, path_means, SegmentIs, PathIs};
 
-use crate::span::{Next, Span, next_span, skip_to};
+use crate::span::{Span, next_span, skip_to};
 use support::bytes::{part, same_bytes};
 
 // A name: a part of the text.
@@ -52,92 +52,58 @@ pub struct PathRead {
     pub next: usize,
 }
 
-// The first segment of a relative path and the path of the others, or there is none.
-#[derive(Clone, Copy)]
-pub enum SegmentRead {
-    Segment(PathSeg, Relative),
-    End,
-}
-
 // The segment that a span gives, or none.
-#[derive(Clone, Copy)]
-enum Given {
-    Segment(PathSeg),
-    None,
-}
-
-// The level and the name of a local path, or it is none.
-#[derive(Clone, Copy)]
-enum LocalName {
-    Local(usize, Name),
-    None,
-}
-
-fn segment_of(text: &[u8], s: Span) -> Given
+fn segment_of(text: &[u8], s: Span) -> Option<PathSeg>
     ensures { given_means text.now result ≡ segment_of text.now s }
 {
     let tag = s.tag;
     match tag {
-        36 => Given::Segment(PathSeg::Root),
-        37 => Given::Segment(PathSeg::Here),
-        38 => Given::Segment(PathSeg::Up),
+        36 => Some(PathSeg::Root),
+        37 => Some(PathSeg::Here),
+        38 => Some(PathSeg::Up),
         39..=40 => {
             if same_bytes(part(text, s.start, s.end), b"this") {
-                return Given::None;
+                return None;
             }
-            Given::Segment(PathSeg::Named(Name {
+            Some(PathSeg::Named(Name {
                 start: s.start,
                 end: s.end,
             }))
         }
-        _ => Given::None,
+        _ => None,
     }
 }
 
-// The first segment of a relative path: spans are taken while their end is not beyond the path's.
-pub fn next_segment(text: &[u8], words: &[u32], path: Relative) -> SegmentRead
+// The first segment of a relative path and the path of the others, or there is none. Spans are
+// taken while their end is not beyond the path's.
+pub fn next_segment(text: &[u8], words: &[u32], path: Relative) -> Option<(PathSeg, Relative)>
     ensures { SegmentIs text.now words.now path result }
 {
     let mut at = path.from;
     loop {
-        let n = next_span(words, at);
-        let Next::Span(s) = n else {
-            return SegmentRead::End;
-        };
+        let s = next_span(words, at)?;
         if path.end < s.end {
-            return SegmentRead::End;
+            return None;
         }
         at = s.number + 1;
-        let g = segment_of(text, s);
-        if let Given::Segment(segment) = g {
-            return SegmentRead::Segment(
-                segment,
-                Relative {
-                    start: path.start,
-                    end: path.end,
-                    from: at,
-                },
-            );
+        if let Some(segment) = segment_of(text, s) {
+            return Some((segment, Relative { from: at, ..path }));
         }
     }
 }
 
 // The segments are ups and a name: how many ups, and the name.
-fn ups_and_name(text: &[u8], words: &[u32], path: Relative) -> LocalName
+fn ups_and_name(text: &[u8], words: &[u32], path: Relative) -> Option<(usize, Name)>
     ensures { local_means text.now result ≡ ups_and_name 0 (segments_mean text.now words.now path) }
 {
     let mut rest = path;
     let mut level = 0;
     loop {
-        let n = next_segment(text, words, rest);
-        let SegmentRead::Segment(segment, after) = n else {
-            return LocalName::None;
-        };
+        let (segment, after) = next_segment(text, words, rest)?;
         match segment {
             PathSeg::Up => {}
-            PathSeg::Named(name) => return LocalName::Local(level, name),
-            PathSeg::Root => return LocalName::None,
-            PathSeg::Here => return LocalName::None,
+            PathSeg::Named(name) => return Some((level, name)),
+            _ => return None,
         }
         level += 1;
         rest = after;
@@ -145,18 +111,13 @@ fn ups_and_name(text: &[u8], words: &[u32], path: Relative) -> LocalName
 }
 
 // The segments are here, ups and a name: how many ups, and the name.
-fn get_local_path_and_level(text: &[u8], words: &[u32], path: Relative) -> LocalName
+fn get_local_path_and_level(text: &[u8], words: &[u32], path: Relative) -> Option<(usize, Name)>
     ensures { local_means text.now result ≡ local_name (segments_mean text.now words.now path) }
 {
-    let n = next_segment(text, words, path);
-    let SegmentRead::Segment(segment, rest) = n else {
-        return LocalName::None;
-    };
+    let (segment, rest) = next_segment(text, words, path)?;
     match segment {
         PathSeg::Here => ups_and_name(text, words, rest),
-        PathSeg::Named(_) => LocalName::None,
-        PathSeg::Root => LocalName::None,
-        PathSeg::Up => LocalName::None,
+        _ => None,
     }
 }
 
@@ -165,15 +126,14 @@ impl Path {
     fn new(text: &[u8], words: &[u32], path: Relative) -> Path
         ensures { path_means text.now words.now result ≡ path_of (raw_means text.now (Path.Relative path)) (segments_mean text.now words.now path) }
     {
-        let n = get_local_path_and_level(text, words, path);
-        match n {
-            LocalName::Local(level, name) => Path::Local(Local {
+        match get_local_path_and_level(text, words, path) {
+            Some((level, name)) => Path::Local(Local {
                 start: path.start,
                 end: path.end,
                 level: level,
                 name: name,
             }),
-            LocalName::None => Path::Relative(path),
+            None => Path::Relative(path),
         }
     }
 

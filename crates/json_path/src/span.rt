@@ -20,20 +20,6 @@ impl Span {
     pub const ESCAPE: u32 = 4;
 }
 
-// The next walked span, or none is left.
-#[derive(Clone, Copy)]
-pub enum Next {
-    Span(Span),
-    End,
-}
-
-// The escape that stands at a number, or none: the list ends there, or another span stands there.
-#[derive(Clone, Copy)]
-pub enum Escape {
-    Found(Span),
-    None,
-}
-
 fn wide(x: u32) -> usize
     ensures { result ≡ x }
 {
@@ -77,7 +63,7 @@ pub fn span_at(words: &[u32], k: usize) -> Span
 }
 
 // The first span from number `k` on that is no escape.
-pub fn next_span(words: &[u32], k: usize) -> Next
+pub fn next_span(words: &[u32], k: usize) -> Option<Span>
     ensures { NextIs words.now k result }
 {
     let n = span_count(words);
@@ -85,25 +71,25 @@ pub fn next_span(words: &[u32], k: usize) -> Next
     while i < n {
         let s = span_at(words, i);
         if s.tag != Span::ESCAPE {
-            return Next::Span(s);
+            return Some(s);
         }
         i += 1;
     }
-    Next::End
+    None
 }
 
-// The span of number `k`, if it is an escape.
-pub fn escape_at(words: &[u32], k: usize) -> Escape
+// The span of number `k`, if there is one and it is an escape.
+pub fn escape_at(words: &[u32], k: usize) -> Option<Span>
     ensures { EscapeIs words.now k result }
 {
     if span_count(words) <= k {
-        return Escape::None;
+        return None;
     }
     let s = span_at(words, k);
     if s.tag == Span::ESCAPE {
-        return Escape::Found(s);
+        return Some(s);
     }
-    Escape::None
+    None
 }
 
 // The number from which the spans are that follow those, from number `k` on, whose end is not
@@ -113,8 +99,7 @@ pub fn skip_to(words: &[u32], limit: usize, k: usize) -> usize
 {
     let mut at = k;
     loop {
-        let n = next_span(words, at);
-        let Next::Span(s) = n else {
+        let Some(s) = next_span(words, at) else {
             return at;
         };
         if limit < s.end {

@@ -8,18 +8,17 @@ ghost use Rattle.literal.specs.Means.{NumberIs, PointIs, ExponentIs, ModeIs, Mod
 use crate::class::is_digit;
 use crate::mode::{Act, Mode, Num, Top};
 use crate::plain::past_plain;
-use crate::requote::{Place, Quoted, next_byte};
+use crate::requote::{Place, next_byte};
 use crate::string::string_act;
 use crate::value::{
     after_act, colon_act, first_item_act, first_key_act, key_act, name_act, value_act,
 };
 
-// JSON within the limits; not JSON; over a limit.
+// Why a text is no literal: it is not JSON, or it is over a limit.
 #[derive(Clone, Copy)]
-pub enum Verdict {
-    Valid,
+pub enum LiteralError {
     Invalid,
-    Over,
+    OverLimit,
 }
 
 // Behind a digit of a number: an exponent, or what follows the number.
@@ -166,14 +165,6 @@ impl State {
     const DEPTH: usize = 32;
 }
 
-// After a byte: on in a state, or the byte is at fault.
-#[derive(Clone, Copy)]
-enum Fed {
-    On(State),
-    Invalid,
-    Over,
-}
-
 fn top_of(depth: usize, bits: usize) -> Top
     ensures { result ≡ top_of (stack_means depth bits) }
 {
@@ -213,21 +204,21 @@ fn mode_fits(mode: Mode) -> bool
 }
 
 // The state, if it passes no limit.
-fn within(depth: usize, bits: usize, mode: Mode) -> Fed
+fn within(depth: usize, bits: usize, mode: Mode) -> Result<State, LiteralError>
     requires { bits < power_of2 depth }
     ensures { WithinIs depth bits mode result }
 {
     if State::DEPTH < depth {
-        return Fed::Over;
+        return Err(LiteralError::OverLimit);
     }
     if mode_fits(mode) {
-        return Fed::On(State { depth, bits, mode });
+        return Ok(State { depth, bits, mode });
     }
-    Fed::Over
+    Err(LiteralError::OverLimit)
 }
 
-// One byte.
-fn feed(state: State, c: u8) -> Fed
+// One byte: on in a state, or the byte is at fault.
+fn feed(state: State, c: u8) -> Result<State, LiteralError>
     requires { StateRoom state }
     ensures { FedIs state c result }
 {
@@ -250,7 +241,7 @@ fn feed(state: State, c: u8) -> Fed
             }
             within(depth - 1, bits / 2, m)
         }
-        Act::Invalid => Fed::Invalid,
+        Act::Invalid => Err(LiteralError::Invalid),
     }
 }
 
@@ -286,23 +277,23 @@ fn mode_ends(mode: Mode) -> bool
 }
 
 // The end of the text.
-fn finish(state: State) -> Verdict
+fn finish(state: State) -> Result<(), LiteralError>
     ensures { verdict_means result ≡ state_runs state [] }
 {
     let depth = state.depth;
     let mode = state.mode;
     if depth != 0 {
-        return Verdict::Invalid;
+        return Err(LiteralError::Invalid);
     }
     if mode_ends(mode) {
-        return Verdict::Valid;
+        return Ok(());
     }
-    Verdict::Invalid
+    Err(LiteralError::Invalid)
 }
 
-// The verdict on the bytes of a text from a place on, rewritten or not. It stops at the first byte at
-// fault. One loop for both, so that the compiler can put all of `feed` into it.
-fn judge(text: &[u8], first: Place, quoted: bool) -> Verdict
+// Judges the bytes of a text from a place on, rewritten or not. It stops at the first byte at fault.
+// One loop for both, so that the compiler can put all of `feed` into it.
+fn judge(text: &[u8], first: Place, quoted: bool) -> Result<(), LiteralError>
     ensures { verdict_means result ≡ verdict (left quoted text.now first) }
 {
     let mut state = State {
@@ -312,37 +303,24 @@ fn judge(text: &[u8], first: Place, quoted: bool) -> Verdict
     };
     let mut place = first;
     loop {
-        let mode = state.mode;
-        let there = past_plain(text, mode, place);
-        let byte = next_byte(text, there, quoted);
-        let Quoted::Byte(c, behind) = byte else {
+        let there = past_plain(text, state.mode, place);
+        let Some((c, behind)) = next_byte(text, there, quoted) else {
             return finish(state);
         };
-        let fed = feed(state, c);
-        match fed {
-            Fed::On(next) => {
-                state = next;
-            }
-            Fed::Invalid => {
-                return Verdict::Invalid;
-            }
-            Fed::Over => {
-                return Verdict::Over;
-            }
-        }
+        state = feed(state, c)?;
         place = behind;
     }
 }
 
 // The verdict on a literal's text.
-pub fn check_literal(text: &[u8]) -> Verdict
+pub fn check_literal(text: &[u8]) -> Result<(), LiteralError>
     ensures { verdict_means result ≡ verdict text.now }
 {
     judge(text, Place::Inner(0), false)
 }
 
 // The verdict on the inner text of single quotes, as if it were rewritten.
-pub fn check_quoted(inner: &[u8]) -> Verdict
+pub fn check_quoted(inner: &[u8]) -> Result<(), LiteralError>
     ensures { verdict_means result ≡ verdict (requoted inner.now) }
 {
     judge(inner, Place::Opening, true)

@@ -6,8 +6,8 @@
 ghost use Rattle.std.specs.Prelude.{◌≤◌, length, IfOk};
 
 use card::stored::{line_at, read_words};
-use json_path::path::{Path, PathSeg, Relative, SegmentRead, next_segment, parse_json_path};
-use json_path::span::{Escape, Next, Span, escape_at, next_span, skip_to, span_at, span_count};
+use json_path::path::{Path, PathSeg, Relative, next_segment, parse_json_path};
+use json_path::span::{Span, escape_at, next_span, skip_to, span_at, span_count};
 use std::io::{self, Read};
 use support::bytes::part;
 
@@ -24,16 +24,14 @@ fn show_number(rt: &impl Print, n: usize) -> io::Result<()> {
 
 // The number of the next walked span, or `end`.
 fn show_next(rt: &impl Print, words: &[u32], k: usize) -> io::Result<()> {
-    let n = next_span(words, k);
-    let Next::Span(s) = n else {
+    let Some(s) = next_span(words, k) else {
         return show(rt, b"end");
     };
     show_number(rt, s.number)
 }
 
 fn show_escape(rt: &impl Print, words: &[u32], k: usize) -> io::Result<()> {
-    let e = escape_at(words, k);
-    let Escape::Found(s) = e else {
+    let Some(s) = escape_at(words, k) else {
         return show(rt, b"none");
     };
     show_number(rt, s.number)
@@ -53,14 +51,11 @@ fn show_segment(rt: &impl Print, text: &[u8], segment: PathSeg) -> io::Result<()
 
 fn show_segments(rt: &impl Print, text: &[u8], words: &[u32], path: Relative) -> io::Result<()> {
     let mut rest = path;
-    loop {
-        let n = next_segment(text, words, rest);
-        let SegmentRead::Segment(segment, after) = n else {
-            return Ok(());
-        };
+    while let Some((segment, after)) = next_segment(text, words, rest) {
         show_segment(rt, text, segment)?;
         rest = after;
     }
+    Ok(())
 }
 
 // The path of a reference, and the number of the next walked span after it.

@@ -5,15 +5,15 @@
 
 ghost use Rattle.std.specs.Prelude.{◌≡◌, ◌<◌, ◌≤◌, length, IfOk};
 
-use literal::check::{Verdict, check_literal, check_quoted};
-use literal::requote::{Place, Quoted, next_quoted};
+use literal::check::{LiteralError, check_literal, check_quoted};
+use literal::requote::{Place, next_quoted};
 use std::io::{self, Read};
 
-fn letter(v: Verdict) -> u8 {
+fn letter(v: Result<(), LiteralError>) -> u8 {
     match v {
-        Verdict::Valid => b'v',
-        Verdict::Invalid => b'i',
-        Verdict::Over => b'o',
+        Ok(()) => b'v',
+        Err(LiteralError::Invalid) => b'i',
+        Err(LiteralError::OverLimit) => b'o',
     }
 }
 
@@ -29,14 +29,11 @@ fn write_byte(rt: &impl Print, b: u8) -> io::Result<()> {
 
 fn write_rewritten(rt: &impl Print, inner: &[u8]) -> io::Result<()> {
     let mut place = Place::Opening;
-    loop {
-        let quoted = next_quoted(inner, place);
-        let Quoted::Byte(b, behind) = quoted else {
-            return Ok(());
-        };
+    while let Some((b, behind)) = next_quoted(inner, place) {
         write_byte(rt, b)?;
         place = behind;
     }
+    Ok(())
 }
 
 fn answer(rt: &impl Print, kind: u8, text: &[u8]) -> io::Result<()> {

@@ -1,52 +1,26 @@
 -- The loop keeps the segments: the spans taken so far gave none. Assumes nothing.
 use native.Mathlib.Omega.{arith}
 use mathlib.Core.Path.{refl}
-use Rattle.json_path.proofs.Cases as cases
 use Rattle.json_path.proofs.PathLoops as laws
 use Rattle.json_path.proofs.path.next_segment.Goals as goal
 
 pub loop-s-init : goal.loop-s-init
 loop-s-init c = record { same = refl; onward = omega arith }
 
-pub returns-in_default : goal.returns-in_default
-returns-in_default c =
-    let l = c.loop-s in
-    laws.searching_end l.invariant (cases.next_none c.in_default.is c.next_span-n.ensures)
+pub returns-in_err-s : goal.returns-in_err-s
+returns-in_err-s c = rw c.from_residual.ensures (laws.searching_end c.loop-s.invariant c.in_err-s.ensures.means)
 
 pub returns-then-path-s : goal.returns-then-path-s
-returns-then-path-s c =
-    let l = c.loop-s in
-    let n = c.in-Span in
-    let next_span = c.next_span-n in
-    laws.searching_stop l.invariant (cases.next_found n.is next_span.ensures) c.if-path-s.true
+returns-then-path-s c = laws.searching_stop c.loop-s.invariant c.in_ok-s.ensures.means c.if-path-s.true
 
 pub overflow_add-at : goal.overflow_add-at
-overflow_add-at c =
-    let n = c.in-Span in
-    let next_span = c.next_span-n in
-    let w = cases.next_found n.is next_span.ensures in omega arith
+overflow_add-at c = let w = c.in_ok-s.ensures.means in omega arith
 
-pub returns-in-Segment : goal.returns-in-Segment
-returns-in-Segment c =
-    let l = c.loop-s in
-    let n = c.in-Span in
-    let next_span = c.next_span-n in
-    let if1 = c.if-path-s in
-    let segment_of = c.segment_of-g in
-    laws.searching_found l.invariant (cases.next_found n.is next_span.ensures) if1.false c.in-Segment.is
-    segment_of.ensures
+pub returns-in-Some : goal.returns-in-Some
+returns-in-Some c = laws.searching_found c.loop-s.invariant c.in_ok-s.ensures.means c.if-path-s.false c.in-Some.ensures
 
 pub loop-s-smaller : goal.loop-s-smaller
-loop-s-smaller c =
-    let n = c.in-Span in
-    let next_span = c.next_span-n in
-    let w = cases.next_found n.is next_span.ensures in omega arith
+loop-s-smaller c = let w = c.in_ok-s.ensures.means in omega arith
 
 pub loop-s-preserved : goal.loop-s-preserved
-loop-s-preserved c =
-    let l = c.loop-s in
-    let n = c.in-Span in
-    let next_span = c.next_span-n in
-    let if1 = c.if-path-s in
-    laws.searching_on l.invariant (cases.next_found n.is next_span.ensures) if1.false c.in_default-g.is
-    c.segment_of-g.ensures
+loop-s-preserved c = laws.searching_on c.loop-s.invariant c.in_ok-s.ensures.means c.if-path-s.false c.in_default.ensures

@@ -1,7 +1,6 @@
 -- The loop keeps what skipping leaves; each turn takes one walked span further. Assumes nothing.
 use native.Mathlib.Omega.{arith}
 use mathlib.Core.Path.{refl}
-use Rattle.json_path.proofs.Cases as cases
 use Rattle.json_path.proofs.SpanLoops as laws
 use Rattle.json_path.proofs.span.skip_to.Goals as goal
 
@@ -11,30 +10,22 @@ loop-s-init c = record { same = refl; onward = omega arith }
 pub returns-in_default : goal.returns-in_default
 returns-in_default c =
     let l = c.loop-s in
-    laws.skipping_end l.invariant (cases.next_none c.in_default.is c.next_span-n.ensures)
+    laws.skipping_end l.invariant c.in_default.ensures.means
 
 pub returns-then-limit-s : goal.returns-then-limit-s
 returns-then-limit-s c =
     let l = c.loop-s in
-    let n = c.in-Span in
-    let next_span = c.next_span-n in
-    laws.skipping_stop l.invariant (cases.next_found n.is next_span.ensures) c.if-limit-s.true
+    laws.skipping_stop l.invariant c.in-Some.ensures.means c.if-limit-s.true
 
 pub overflow_add-at : goal.overflow_add-at
 overflow_add-at c =
-    let n = c.in-Span in
-    let next_span = c.next_span-n in
-    let w = cases.next_found n.is next_span.ensures in omega arith
+    let w = c.in-Some.ensures.means in omega arith
 
 pub loop-s-smaller : goal.loop-s-smaller
 loop-s-smaller c =
-    let n = c.in-Span in
-    let next_span = c.next_span-n in
-    let w = cases.next_found n.is next_span.ensures in omega arith
+    let w = c.in-Some.ensures.means in omega arith
 
 pub loop-s-preserved : goal.loop-s-preserved
 loop-s-preserved c =
     let l = c.loop-s in
-    let n = c.in-Span in
-    let next_span = c.next_span-n in
-    laws.skipping_on l.invariant (cases.next_found n.is next_span.ensures) c.if-limit-s.false
+    laws.skipping_on l.invariant c.in-Some.ensures.means c.if-limit-s.false

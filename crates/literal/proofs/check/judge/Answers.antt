@@ -2,6 +2,8 @@
 use native.Mathlib.Omega.{arith}
 use mathlib.Core.Path.{sym, ap, ◌∙◌}
 use lib.ListN.{length}
+use Rattle.std.proofs.lemmas.Result.{err_from_is_err_and}
+use Rattle.literal.specs.Means.{error_means, verdict_means}
 use Rattle.literal.specs.Requote.{left}
 use Rattle.literal.proofs.PlainLaws as plain
 use Rattle.literal.proofs.QuoteLaws as quote
@@ -11,47 +13,34 @@ use Rattle.literal.proofs.check.judge.Goals as goal
 pub loop-c-init : goal.loop-c-init
 loop-c-init c = let a = c.args in (state.begun_runs (left a.quoted a.text.now a.first), state.begun_room)
 
+pub feed-requires : goal.feed-requires
+feed-requires c = c.loop-c.invariant.1
+
 pub returns-in_default : goal.returns-in_default
 returns-in_default c =
     let a = c.args in
     let l = c.loop-c in
     let there = c.past_plain-there in
-    let next_byte = c.next_byte-byte in
     let e = plain.past_runs a.quoted a.text.now l.invariant.0 l.invariant.1 there.ensures in
     c.finish.ensures
-    ∙ sym (quote.byte_end a.quoted a.text.now there.result l.state e next_byte.ensures c.in_default.is)
+    ∙ sym (quote.byte_end a.quoted a.text.now there.result l.state e c.next_byte.ensures c.in_default.is)
 
-pub feed-fed-requires : goal.feed-fed-requires
-feed-fed-requires c = c.loop-c.invariant.1
-
-pub returns-in-Invalid : goal.returns-in-Invalid
-returns-in-Invalid c =
+pub returns-in_err-state : goal.returns-in_err-state
+returns-in_err-state c =
     let a = c.args in
     let l = c.loop-c in
     let there = c.past_plain-there in
-    let next_byte = c.next_byte-byte in
     let e = plain.past_runs a.quoted a.text.now l.invariant.0 l.invariant.1 there.ensures in
-    sym
-    (quote.byte_taken a.quoted a.text.now there.result e next_byte.ensures c.in-Byte.is
-    c.feed-fed.ensures c.in-Invalid.is)
-
-pub returns-in-Over : goal.returns-in-Over
-returns-in-Over c =
-    let a = c.args in
-    let l = c.loop-c in
-    let there = c.past_plain-there in
-    let next_byte = c.next_byte-byte in
-    let e = plain.past_runs a.quoted a.text.now l.invariant.0 l.invariant.1 there.ensures in
-    sym
-    (quote.byte_taken a.quoted a.text.now there.result e next_byte.ensures c.in-Byte.is
-    c.feed-fed.ensures c.in-Over.is)
+    let p = err_from_is_err_and c.from_residual.result c.from_residual.ensures.1 in
+    ap verdict_means p.1 ∙ ap error_means p.2
+    ∙ sym
+    (quote.byte_taken a.quoted a.text.now there.result e c.next_byte.ensures c.in-Some.is c.feed.ensures c.in_err-state.was)
 
 pub loop-c-smaller : goal.loop-c-smaller
 loop-c-smaller c =
     let a = c.args in
     let there = c.past_plain-there in
-    let next_byte = c.next_byte-byte in
-    let e = ap length (quote.byte_left a.quoted a.text.now there.result next_byte.ensures c.in-Byte.is) in
+    let e = ap length (quote.byte_left a.quoted a.text.now there.result c.next_byte.ensures c.in-Some.is) in
     omega (arith, there.ensures.fewer a.quoted)
 
 pub loop-c-preserved : goal.loop-c-preserved
@@ -59,7 +48,6 @@ loop-c-preserved c =
     let a = c.args in
     let l = c.loop-c in
     let there = c.past_plain-there in
-    let next_byte = c.next_byte-byte in
     let e = plain.past_runs a.quoted a.text.now l.invariant.0 l.invariant.1 there.ensures in
-    let x = c.feed-fed.ensures in let y = c.in-On.is in
-    (quote.byte_taken a.quoted a.text.now there.result e next_byte.ensures c.in-Byte.is x y, state.fed_room x y)
+    let x = c.feed.ensures in let y = c.in_ok-state.was in
+    (quote.byte_taken a.quoted a.text.now there.result e c.next_byte.ensures c.in-Some.is x y, state.fed_room x y)
