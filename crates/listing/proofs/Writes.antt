@@ -1,5 +1,5 @@
 -- Writing one after the other: the bytes of two writers in turn are the bytes of both joined. Assumes nothing.
-use Prim.Native.Nat.{ℕ, zero, suc, ◌+◌, ◌-◌, ◌/◌, ◌%◌, ◌≤◌, ◌<◌}
+use Prim.Native.Nat.{ℕ, zero, suc, ◌+◌, ◌-◌, ◌/◌, ◌%◌, ◌≤◌, ◌<◌, min}
 use native.Mathlib.Omega.{arith}
 use native.Mathlib.Nat.{add-zero, add-suc, suc-add}
 use native.Mathlib.Numerals.{add-one}
@@ -7,8 +7,12 @@ use mathlib.Core.Path.{◌≡◌, refl, sym, ap, subst, ◌∙◌}
 use mathlib.Core.List.{[], ◌∷◌, ◌++◌, append-nil, append_assoc}
 use mathlib.Core.Bool.{Bool, true, false}
 use lib.Dec.{leb, ltb, eqb}
-use lib.ListN.{length, get_or, take, drop, set, length-append, length-drop, take-append-drop}
-use lib.Seq.{sets, set_out, length-sets, take-suc, take_all, take-add}
+use lib.ListN.{length, get_or, take, drop, set, length-append, length-take, length-drop, take-append-drop}
+use lib.Seq.{sets, paste, set_out, length-sets, take-suc, take_all}
+use borrow.Rule.Slice.PartMut.{put_mid}
+use Rattle.std.proofs.lemmas.List.{nil_from_length}
+use Rattle.std.proofs.lemmas.List.Edits.{sets-eq}
+use Rattle.std.proofs.lemmas.Slice.{put_mid-paste}
 use borrow.Author.Tests.{leb-true, leb-false, ltb-false, lt-ltb, le-ltb, ne_eqb, eqb-true, eqb-false}
 use Rattle.support.specs.Bytes.{Bytes, ascii, if}
 use Rattle.listing.specs.Quoted.{escape, escaped, quoted, digits, decimal}
@@ -59,10 +63,31 @@ written_more s i h k a b = rw (add-one i, take-suc s i 0 k) (written_then h a b)
 pub written_all : {l m : Bytes} {at p : ℕ} (s : Bytes) (i : ℕ) → length s ≤ i → Written (take i s) l at m p → Written s l at m p
 written_all s i h a = rw (take_all i s h) at a
 
--- the same of a byte that is stored where there is room
-pub copied_more : {l m : Bytes} {at : ℕ} (s : Bytes) (i : ℕ) → at + length s ≤ length l → length l ≤ largest → i < length s → Written (take i s) l at m (at + i)
-    → Written (take (i + 1) s) l at (set m (at + i) (get_or s i 0)) (at + (i + 1))
-copied_more s i h g k a = written_more s i g k a (record { stored = refl; next = omega arith })
+-- what is copied as far as there is room is what is stored
+pub filled : (l w part : Bytes) (at n k : ℕ) → at < length l → n ≡ min (length w) (length l - at) → k ≡ n → part ≡ take n w → put_mid at k l part ≡ sets l at w
+filled l w part at n k h m q e =
+    let o : length (take n w) ≡ n = omega (arith, length-take n w) in
+    let a : paste l at (take n w) n ≡ sets l at (take n w) = rw (take_all n (take n w) (omega arith)) (sym (sets-eq (take n w) l at (omega arith) ∙ ap (λ z. take at l ++ take n w ++ drop (at + z) l) o)) in
+    put_mid-paste at k l part (take n w) n e (sym q) (sym o) ∙ a ∙ sym (go (leb (length w) (length l - at)) refl) ∙ sets_append l at (take n w) (drop n w) ∙ ap (sets l at) (take-append-drop n w)
+  where
+    go : (u : Bool) → leb (length w) (length l - at) ≡ u → sets (sets l at (take n w)) (at + length (take n w)) (drop n w) ≡ sets l at (take n w)
+    go true f = rw (nil_from_length (drop n w) (omega (arith, leb-true (length w) (length l - at) f, length-drop n w)))
+    go false f = sets_out (sets l at (take n w)) (at + length (take n w)) (drop n w) (omega (arith, leb-false (length w) (length l - at) f, length-take n w, length-sets l at (take n w)))
+
+-- a walk over a text has passed the bytes before `rest`, and those have the property
+pub record Passed (P : Bytes → Type 0) (s rest : Bytes) : Type 0 where
+  pub front : Bytes
+  pub joined : s ≡ front ++ rest
+  pub holds : P front
+
+pub passed_none : (P : Bytes → Type 0) {s rest : Bytes} → rest ≡ s → P [] → Passed P s rest
+passed_none P e h = record { front = []; joined = sym e; holds = h }
+
+pub passed_more : {P : Bytes → Type 0} {s rest : Bytes} (Q : Bytes → Type 0) (x left : Bytes) → rest ≡ x ++ left → ((a : Bytes) → P a → Q (a ++ x)) → Passed P s rest → Passed Q s left
+passed_more Q x left e f p = record { front = p.front ++ x; joined = p.joined ∙ ap (p.front ++◌) e ∙ sym (append_assoc p.front x left); holds = f p.front p.holds }
+
+pub passed_all : {P : Bytes → Type 0} {s rest : Bytes} → length rest ≡ 0 → Passed P s rest → P s
+passed_all {P} {s} {rest} e p = subst P (sym (p.joined ∙ ap (p.front ++◌) (nil_from_length rest e) ∙ append-nil p.front)) p.holds
 
 -- the same of its bytes as quoted text writes them
 pub escaped_append : (s t : Bytes) → escaped (s ++ t) ≡ escaped s ++ escaped t
@@ -81,30 +106,17 @@ escaped_more s i h k a b =
 pub escaped_all : {l m : Bytes} {at p : ℕ} (s : Bytes) (i : ℕ) → length s ≤ i → Written (escaped (take i s)) l at m p → Written (escaped s) l at m p
 escaped_all s i h a = rw (take_all i s h) at a
 
--- the next bytes of a text, from i up to e: as they are written, and where they have no escape
-module _ {l m n : Bytes} {at p r : ℕ} (s : Bytes) (i e : ℕ) (h : length l ≤ largest) (k : i ≤ e) (a : Written (escaped (take i s)) l at m p) where
-  pub escaped_block : Written (escaped (take (e - i) (drop i s))) m p n r → Written (escaped (take e s)) l at n r
-  escaped_block b =
-      let q : i + (e - i) ≡ e = omega arith in
-      let j : escaped (take e s) ≡ escaped (take i s) ++ escaped (take (e - i) (drop i s)) =
-      ap (λ z. escaped (take z s)) (sym q) ∙ ap escaped (take-add i (e - i) s) ∙ escaped_append (take i s) (take (e - i) (drop i s)) in
-      rw j (written_then h a b)
+-- the next bytes of a text, written as quoted text has them; so a run that has no escape, and one byte
+module _ {l m n s rest : Bytes} {at p r : ℕ} (h : length l ≤ largest) (a : Passed (λ x. Written (escaped x) l at m p) s rest) where
+  pub escaped_block : (x left : Bytes) → rest ≡ x ++ left → Written (escaped x) m p n r → Passed (λ y. Written (escaped y) l at n r) s left
+  escaped_block x left e b = passed_more (λ y. Written (escaped y) l at n r) x left e (λ y w. rw (escaped_append y x) (written_then h w b)) a
 
-  pub escaped_run : escaped (take (e - i) (drop i s)) ≡ take (e - i) (drop i s) → Written (take (e - i) (drop i s)) m p n r → Written (escaped (take e s)) l at n r
-  escaped_run q b = escaped_block (rw q b)
+  pub escaped_run : (x left : Bytes) → rest ≡ x ++ left → escaped x ≡ x → Written x m p n r → Passed (λ y. Written (escaped y) l at n r) s left
+  escaped_run x left e q b = escaped_block x left e (rw q b)
 
--- the plain front of what is left of a text
-module _ (s : Bytes) (i r : ℕ) (h : r ≤ length (take (length s - i) (drop i s))) where
-  whole : take (length s - i) (drop i s) ≡ drop i s
-  whole = take_all (length s - i) (drop i s) (omega (arith, length-drop i s))
-
-  pub front_room : i ≤ length s → i + r ≤ length s
-  front_room k = omega (arith, ap length whole, length-drop i s)
-
-  pub front_plain : escaped (take r (take (length s - i) (drop i s))) ≡ take r (take (length s - i) (drop i s)) → escaped (take (i + r - i) (drop i s)) ≡ take (i + r - i) (drop i s)
-  front_plain e =
-      let q : i + r - i ≡ r = omega arith in
-      rw q (ap (λ l. escaped (take r l)) (sym whole) ∙ e ∙ ap (take r) whole)
+  pub escaped_byte : (left : Bytes) (c : ℕ) → rest ≡ c ∷ left → Written (escape c) m p n r → Passed (λ y. Written (escaped y) l at n r) s left
+  unfolding escaped
+  escaped_byte left c e b = escaped_block (c ∷ []) left e (rw (append-nil (escape c)) b)
 
 -- bytes that have no escape
 pub plain_escaped : (s : Bytes) (r : ℕ) → r ≤ length s → ((k : ℕ) → k < r → escape (get_or s k 0) ≡ get_or s k 0 ∷ []) → escaped (take r s) ≡ take r s
@@ -172,14 +184,13 @@ escapes_byte {k = k} s i h a b =
     let e : Escapes (b' ∷ []) k = (b.0, ap length (append-nil (escape b')) ∙ b.1) in
     rw (add-one i, take-suc s i 0 h) (escapes_join (take i s) (b' ∷ []) a e)
 
-pub escapes_block : {n k : ℕ} (s : Bytes) (i m : ℕ) → Escapes (take i s) n → Escapes (take (i + m - i) (drop i s)) k → Escapes (take (i + m) s) (n + k)
-escapes_block s i m a b =
-    let q : i + m - i ≡ m = omega arith in
-    rw (take-add i m s) (escapes_join (take i s) (take m (drop i s)) a (rw q at b))
+pub escapes_block : {n k : ℕ} {s rest : Bytes} (x left : Bytes) → rest ≡ x ++ left → Escapes x k → Passed (λ y. Escapes y n) s rest → Passed (λ y. Escapes y (n + k)) s left
+escapes_block {n} {k} x left e b = passed_more (λ y. Escapes y (n + k)) x left e (λ y a. escapes_join y x a b)
 
-pub escapes_rest : {n k : ℕ} (s : Bytes) (i : ℕ) → Escapes (take i s) n → Escapes (take (length s - i) (drop i s)) k → Escapes s (n + k)
-escapes_rest s i a b =
-    rw (take-append-drop i s) at (escapes_join (take i s) (drop i s) a (rw (take_all (length s - i) (drop i s) (omega (arith, length-drop i s))) at b))
+-- their number does not pass the text's length
+pub escapes_room : {n k : ℕ} {s rest : Bytes} (x left : Bytes) → rest ≡ x ++ left → k ≤ length x → Passed (λ y. Escapes y n) s rest → n + k ≤ length s
+escapes_room {n} {k} {s} {rest} x left e h p =
+    omega (arith, p.holds.0, ap length p.joined, ap length e, length-append p.front rest, length-append x left)
 
 pub quoted_done : {l₀ l m n : Bytes} {at p q r : ℕ} (s : Bytes) → length l₀ ≤ largest
     → Written (34 ∷ []) l₀ at l p → Written (escaped s) l p m q → Written (34 ∷ []) m q n r → Written (quoted s) l₀ at n r

@@ -5,7 +5,7 @@ ghost use Rattle.listing.specs.Code.Cost.{cost_alone, cost, cost_to};
 ghost use Rattle.listing.specs.Quoted.{quoted};
 ghost use Rattle.listing.specs.Written.{Written, onward};
 
-use crate::write::{onward, put, put_escaped};
+use crate::write::{put, put_escaped};
 use literal::requote::{Place, Quoted, next_quoted};
 use support::bytes::block_end;
 
@@ -64,7 +64,7 @@ fn requoted_cost(inner: &[u8]) -> usize
     let mut i = 0;
     while i < last {
         let e = block_end(i, last, 32);
-        n = onward(n, block_cost(&inner[i..e + 1]));
+        n = n.saturating_add(block_cost(&inner[i..e + 1]));
         i = e;
     }
     n
@@ -92,7 +92,7 @@ pub fn write_requoted(out: &mut [u8], at: usize, inner: &[u8]) -> usize
     ensures { Written (quoted (requoted inner.now)) out.old at out.new result }
 {
     if out.len() <= at {
-        return onward(onward(at, 6), requoted_cost(inner));
+        return at.saturating_add(6).saturating_add(requoted_cost(inner));
     }
     write_requoted_each(out, at, inner)
 }

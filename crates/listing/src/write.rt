@@ -2,9 +2,9 @@
 ghost use Rattle.std.specs.Prelude.{◌≡◌, [], ◌∷◌, ◌+◌, ◌≤◌, ◌<◌, length, take};
 ghost use Rattle.support.specs.Bytes.{part};
 ghost use Rattle.listing.specs.Quoted.{quoted, decimal, escape, escaped};
-ghost use Rattle.listing.specs.Written.{Written, onward};
+ghost use Rattle.listing.specs.Written.{Written};
 
-use support::bytes::{block_end, part};
+use support::bytes::part;
 
 // Stores one byte. A position that would pass the largest number stops there.
 pub fn put(out: &mut [u8], at: usize, b: u8) -> usize
@@ -13,60 +13,18 @@ pub fn put(out: &mut [u8], at: usize, b: u8) -> usize
     if at < out.len() {
         out[at] = b;
     }
-    if at < usize::MAX { at + 1 } else { at }
+    at.saturating_add(1)
 }
 
-// The position so many bytes on.
-pub(crate) fn onward(at: usize, n: usize) -> usize
-    ensures { result ≡ onward at n }
-{
-    if usize::MAX - at < n {
-        usize::MAX
-    } else {
-        at + n
-    }
-}
-
-// Stores these bytes. Where no byte can be stored they are only counted.
+// Stores these bytes as far as there is room, and counts them all.
 pub fn put_bytes(out: &mut [u8], at: usize, bytes: &[u8]) -> usize
     ensures { Written bytes.now out.old at out.new result }
 {
-    if out.len() <= at {
-        return onward(at, bytes.len());
+    if at < out.len() {
+        let n = bytes.len().min(out.len() - at);
+        out[at..at + n].copy_from_slice(&bytes[..n]);
     }
-    let mut p = at;
-    let mut i = 0;
-    while i < bytes.len() {
-        p = put(out, p, bytes[i]);
-        i += 1;
-    }
-    p
-}
-
-// Copies bytes for which there is room.
-fn copy_to(out: &mut [u8], at: usize, bytes: &[u8]) -> usize
-    requires { at + length bytes.now ≤ length out.old }
-    ensures { Written bytes.now out.old at out.new result }
-{
-    let mut i = 0;
-    while i < bytes.len() {
-        out[at + i] = bytes[i];
-        i += 1;
-    }
-    at + i
-}
-
-// Stores these bytes. It is `put_bytes`, which asks at each byte whether there is room, and here it is
-// asked once for all.
-fn put_run(out: &mut [u8], at: usize, bytes: &[u8]) -> usize
-    ensures { Written bytes.now out.old at out.new result }
-{
-    if at <= out.len() {
-        if bytes.len() <= out.len() - at {
-            return copy_to(out, at, bytes);
-        }
-    }
-    put_bytes(out, at, bytes)
+    at.saturating_add(bytes.len())
 }
 
 // One byte of a quoted text: `\`, `"` and LF have an escape.
@@ -99,10 +57,8 @@ fn escapes_in(block: &[u8]) -> usize
     ensures { (result ≤ length block.now) × (length (escaped block.now) ≡ length block.now + result) }
 {
     let mut n: u8 = 0;
-    let mut i = 0;
-    while i < block.len() {
-        n += more(block[i]);
-        i += 1;
+    for b in block {
+        n += more(*b);
     }
     n as usize
 }
@@ -113,12 +69,10 @@ fn escapes(text: &[u8]) -> usize
     ensures { length (escaped text.now) ≡ length text.now + result }
 {
     let mut n: usize = 0;
-    let mut i = 0;
-    while 128 < text.len() - i {
-        n += escapes_in(&text[i..i + 128]);
-        i += 128;
+    for block in text.chunks(128) {
+        n += escapes_in(block);
     }
-    n + escapes_in(&text[i..])
+    n
 }
 
 // The bytes of a text as they stand between quotes, one by one.
@@ -126,18 +80,10 @@ fn write_each(out: &mut [u8], at: usize, text: &[u8]) -> usize
     ensures { Written (escaped text.now) out.old at out.new result }
 {
     let mut p = at;
-    let mut i = 0;
-    while i < text.len() {
-        p = put_escaped(out, p, text[i]);
-        i += 1;
+    for b in text {
+        p = put_escaped(out, p, *b);
     }
     p
-}
-
-fn least(a: u8, b: u8) -> u8
-    ensures { (result ≤ a) × (result ≤ b) }
-{
-    if b < a { b } else { a }
 }
 
 // The place `i` of a byte that has an escape, 64 for any other.
@@ -159,13 +105,10 @@ fn plain_front(block: &[u8]) -> usize
     ensures { (result ≤ length block.now) × (escaped (take result block.now) ≡ take result block.now) }
 {
     let mut stop: u8 = 64;
-    let mut i = 0;
-    while i < block.len() {
-        stop = least(stop, stop_at(block[i], i as u8));
-        i += 1;
+    for (i, b) in block.iter().enumerate() {
+        stop = stop.min(stop_at(*b, i as u8));
     }
-    let n = stop as usize;
-    if n < block.len() { n } else { block.len() }
+    block.len().min(stop as usize)
 }
 
 // A block as it stands between quotes: `write_each`, but the bytes between two escapes are copied at
@@ -175,17 +118,16 @@ fn write_runs(out: &mut [u8], at: usize, block: &[u8]) -> usize
     ensures { Written (escaped block.now) out.old at out.new result }
 {
     let mut p = at;
-    let mut i = 0;
-    while i < block.len() {
-        let e = i + plain_front(&block[i..]);
-        p = put_run(out, p, &block[i..e]);
-        i = e;
-        if i < block.len() {
-            p = put_escaped(out, p, block[i]);
-            i += 1;
-        }
+    let mut rest = block;
+    loop {
+        let (plain, marked) = rest.split_at(plain_front(rest));
+        p = put_bytes(out, p, plain);
+        let [b, after @ ..] = marked else {
+            return p;
+        };
+        p = put_escaped(out, p, *b);
+        rest = after;
     }
-    p
 }
 
 // A block as it stands between quotes, in the way that its number of escapes makes quickest.
@@ -195,7 +137,7 @@ fn write_block(out: &mut [u8], at: usize, block: &[u8]) -> usize
 {
     let n = escapes_in(block);
     if n == 0 {
-        return put_run(out, at, block);
+        return put_bytes(out, at, block);
     }
     if 4 < n {
         return write_each(out, at, block);
@@ -208,11 +150,8 @@ fn write_blocks(out: &mut [u8], at: usize, text: &[u8]) -> usize
     ensures { Written (escaped text.now) out.old at out.new result }
 {
     let mut p = at;
-    let mut i = 0;
-    while i < text.len() {
-        let e = block_end(i, text.len(), 64);
-        p = write_block(out, p, &text[i..e]);
-        i = e;
+    for block in text.chunks(64) {
+        p = write_block(out, p, block);
     }
     p
 }
@@ -223,7 +162,7 @@ fn write_long(out: &mut [u8], at: usize, text: &[u8]) -> usize
     ensures { Written (escaped text.now) out.old at out.new result }
 {
     if out.len() <= at {
-        return onward(onward(at, text.len()), escapes(text));
+        return at.saturating_add(text.len()).saturating_add(escapes(text));
     }
     write_blocks(out, at, text)
 }

@@ -9,4 +9,4 @@ use Rattle.listing.proofs.requote.write_requoted.Goals as goal
 pub returns-then-out-at : goal.returns-then-out-at
 returns-then-out-at c =
     let a = c.args in
-    writes.written_out (quoted (requoted a.inner.now)) a.out.now a.at c.onward-then-out-at.result (omega arith) (omega (arith, counts.quoted_cost a.inner.now))
+    writes.written_out (quoted (requoted a.inner.now)) a.out.now a.at c.saturating_add-then-out-at.result (omega arith) (omega (arith, counts.quoted_cost a.inner.now))

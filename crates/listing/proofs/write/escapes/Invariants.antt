@@ -1,11 +1,8 @@
--- `listing::write::escapes` meets its contract: the invariant says how many of the first `i` bytes have an escape; a turn counts a block. Assumes nothing.
-use Prim.Native.Nat.{◌≤◌, ◌-◌}
-use lib.ListN.{length, take}
+-- `listing::write::escapes` meets its contract: the invariant says how many of the bytes passed have an escape. Assumes nothing.
+use mathlib.Core.Path.{◌≡◌}
+use Rattle.std.specs.Slice.Iter.{chunks_rest, chunks_size}
 use Rattle.listing.proofs.Writes as writes
 use Rattle.listing.proofs.write.escapes.Given as goal
 
-abbrev pub invariant-loop-i : goal.invariant-loop-i
-invariant-loop-i l = (l.i ≤ length l.text) × (l.n ≤ l.i) × writes.Escapes (take l.i l.text) l.n
-
-abbrev pub decreases-loop-i : goal.decreases-loop-i
-decreases-loop-i l = length l.text - l.i
+abbrev pub invariant-loop-block : goal.invariant-loop-block
+invariant-loop-block l = (chunks_size l.block-iterator ≡ 128) × writes.Passed (λ s. writes.Escapes s l.n) l.text (chunks_rest l.block-iterator)

@@ -1,11 +1,8 @@
--- `listing::write::escapes_in` meets its contract: the invariant says how many of the first `i` bytes have an escape. Assumes nothing.
-use Prim.Native.Nat.{◌≤◌, ◌-◌}
-use lib.ListN.{length, take}
+-- `listing::write::escapes_in` meets its contract: the invariant says how many of the bytes passed have an escape. Assumes nothing.
+use Prim.Native.Nat.{◌≤◌}
+use lib.ListN.{take}
 use Rattle.listing.proofs.Writes as writes
 use Rattle.listing.proofs.write.escapes_in.Given as goal
 
-abbrev pub invariant-loop-i : goal.invariant-loop-i
-invariant-loop-i l = (l.i ≤ length l.block) × (l.n ≤ l.i) × writes.Escapes (take l.i l.block) l.n
-
-abbrev pub decreases-loop-i : goal.decreases-loop-i
-decreases-loop-i l = length l.block - l.i
+abbrev pub invariant-loop-b : goal.invariant-loop-b
+invariant-loop-b l = (l.n ≤ l.b-index) × writes.Escapes (take l.b-index l.block) l.n

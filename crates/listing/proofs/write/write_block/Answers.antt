@@ -4,4 +4,4 @@ use Rattle.listing.proofs.Writes as writes
 use Rattle.listing.proofs.write.write_block.Goals as goal
 
 pub returns-then-n-eq0 : goal.returns-then-n-eq0
-returns-then-n-eq0 c = rw (writes.none_escaped c.args.block.now (omega arith)) c.put_run.ensures
+returns-then-n-eq0 c = rw (writes.none_escaped c.args.block.now (omega arith)) c.put_bytes.ensures

@@ -1,28 +1,26 @@
--- The first `i` bytes are written as quoted text has them; a turn writes a block. Assumes nothing.
-use Prim.Native.Nat.{◌-◌}
+-- The bytes passed are written as quoted text has them; a turn writes a block. Assumes nothing.
 use native.Mathlib.Omega.{arith}
-use lib.ListN.{drop, length-take}
+use mathlib.Core.Path.{ap, ◌∙◌}
+use Rattle.std.specs.Slice.Iter.{chunks_rest, chunks_size}
 use Rattle.listing.specs.Quoted.{escaped}
 use Rattle.listing.proofs.Writes as writes
 use Rattle.listing.proofs.write.write_blocks.Goals as goal
 
-pub loop-i-init : goal.loop-i-init
+pub loop-block-init : goal.loop-block-init
 unfolding escaped
-loop-i-init c = (omega arith, writes.written_none _ _ (omega arith))
+loop-block-init c =
+    let e = c.into_iter-block-iterator.ensures.into_iter_gives in
+    let n = c.chunks-block-items.ensures in
+    (ap chunks_size e ∙ n.size, writes.passed_none _ (ap chunks_rest e ∙ n.rest) (writes.written_none _ _ (omega arith)))
 
 pub write_block-p-requires : goal.write_block-p-requires
-write_block-p-requires c =
-    let i = c.loop-i.i in
-    omega (arith, length-take (c.block_end-e.result - i) (drop i c.args.text.now))
+write_block-p-requires c = let b = c.in-Some.ensures.steps in omega (arith, b.1.1, c.loop-block.invariant.0)
 
-pub loop-i-preserved : goal.loop-i-preserved
-loop-i-preserved c =
-    let l = c.loop-i in
-    let e = c.block_end-e.result in
-    (omega arith, writes.escaped_block c.args.text.now l.i e (omega arith) (omega arith) l.invariant.1 c.write_block-p.ensures)
-
-pub shape_of-out : goal.shape_of-out
-shape_of-out c = writes.written_length c.loop-i.invariant.1
+pub loop-block-preserved : goal.loop-block-preserved
+loop-block-preserved c =
+    let b = c.in-Some.ensures.steps in
+    let i = c.loop-block.invariant in
+    (b.0 ∙ i.0, writes.escaped_block (omega arith) i.1 c.in-Some.block.now _ b.1.0 c.write_block-p.ensures)
 
 pub returns : goal.returns
-returns c = writes.escaped_all c.args.text.now c.loop-i.i (omega arith) c.loop-i.invariant.1
+returns c = writes.passed_all c.in-None.ensures.steps.1.0 c.loop-block.invariant.1

@@ -1,12 +1,10 @@
--- The first `i` bytes are written as quoted text has them; a turn writes a block. Assumes nothing.
-use Prim.Native.Nat.{◌≤◌, ◌-◌}
-use lib.ListN.{length, take}
+-- The bytes passed are written as quoted text has them; a turn writes a block. Assumes nothing.
+use mathlib.Core.Path.{◌≡◌}
+use Rattle.std.specs.Slice.Iter.{chunks_rest, chunks_size}
 use Rattle.listing.specs.Quoted.{escaped}
 use Rattle.listing.specs.Written.{Written}
+use Rattle.listing.proofs.Writes as writes
 use Rattle.listing.proofs.write.write_blocks.Given as goal
 
-abbrev pub invariant-loop-i : goal.invariant-loop-i
-invariant-loop-i l = (l.i ≤ length l.text) × Written (escaped (take l.i l.text)) l.initial.out l.at l.out l.p
-
-abbrev pub decreases-loop-i : goal.decreases-loop-i
-decreases-loop-i l = length l.text - l.i
+abbrev pub invariant-loop-block : goal.invariant-loop-block
+invariant-loop-block l = (chunks_size l.block-iterator ≡ 64) × writes.Passed (λ s. Written (escaped s) l.initial.out l.at l.out l.p) l.text (chunks_rest l.block-iterator)

@@ -1,25 +1,20 @@
--- `listing::write::write_each` meets its contract: the invariant says that the first `i` bytes are written as quoted text has them. Assumes nothing.
+-- `listing::write::write_each` meets its contract: the invariant says that the bytes passed are written as quoted text has them. Assumes nothing.
 use native.Mathlib.Omega.{arith}
 use Rattle.listing.specs.Quoted.{escaped}
 use Rattle.listing.proofs.Writes as writes
 use Rattle.listing.proofs.write.write_each.Goals as goal
 
-pub loop-i-init : goal.loop-i-init
+pub loop-b-init : goal.loop-b-init
 unfolding escaped
-loop-i-init c = (omega arith, writes.written_none _ _ (omega arith))
+loop-b-init c = writes.written_none _ _ (omega arith)
 
-pub loop-i-preserved : goal.loop-i-preserved
-loop-i-preserved c =
-    let a = c.args in
-    let l = c.loop-i in (
-      omega arith,
-      writes.escaped_more a.text.now l.i (omega arith) (omega arith) l.invariant.1 c.put_escaped-p.ensures,
-    )
+pub loop-b-preserved : goal.loop-b-preserved
+loop-b-preserved c =
+    let l = c.loop-b in
+    writes.escaped_more c.args.text.now l.b-index (omega arith) (omega arith) l.invariant c.put_escaped-p.ensures
 
 pub shape_of-out : goal.shape_of-out
-shape_of-out c = writes.written_length c.loop-i.invariant.1
+shape_of-out c = writes.written_length c.loop-b.invariant
 
 pub returns : goal.returns
-returns c =
-    let a = c.args in
-    writes.escaped_all a.text.now c.loop-i.i (omega arith) c.loop-i.invariant.1
+returns c = writes.escaped_all c.args.text.now c.loop-b.b-index (omega arith) c.loop-b.invariant

@@ -7,8 +7,8 @@ use Rattle.listing.proofs.write.write_long.Goals as goal
 pub returns-then-out-at : goal.returns-then-out-at
 returns-then-out-at c =
     let a = c.args in
-    writes.written_out (escaped a.text.now) a.out.now a.at c.onward-then-out-at.result (omega arith)
-    (omega (arith, c.onward-then-out-at.ensures, c.escapes.ensures, c.onward.ensures))
+    writes.written_out (escaped a.text.now) a.out.now a.at c.saturating_add-then-out-at.result (omega arith)
+    (omega (arith, c.saturating_add-then-out-at.ensures, c.escapes.ensures, c.saturating_add.ensures))
 
 pub shape_of-out : goal.shape_of-out
 shape_of-out c = writes.written_length c.write_blocks.ensures
