@@ -3,5 +3,3 @@ pub mod Spans
 pub mod Cases
 pub mod Paths
 pub mod ProvedSet
-mod SpanLoops
-mod PathLoops
