@@ -1,7 +1,5 @@
--- `Spans`, `Cases` and `Paths` are for the crates above; the others serve this crate's proofs alone.
+-- `Spans`, `Cases` and `Paths` serve the crates above too.
 pub mod Spans
 pub mod Cases
 pub mod Paths
 pub mod ProvedSet
-mod SpanLoops
-mod PathLoops

@@ -53,46 +53,43 @@ pub struct PathRead {
 }
 
 // The segment that a span gives, or none.
+// Stays: document 01 names one match over the tag's number, with ranges.
+#[tactic(auto, unfolding(crate::specs::Path::segment_of))]
 fn segment_of(text: &[u8], s: Span) -> Option<PathSeg>
     ensures { given_means text.now result ≡ segment_of text.now s }
 {
-    let tag = s.tag;
-    match tag {
+    match s.tag {
         36 => Some(PathSeg::Root),
         37 => Some(PathSeg::Here),
         38 => Some(PathSeg::Up),
-        39..=40 => {
-            if same_bytes(part(text, s.start, s.end), b"this") {
-                return None;
-            }
-            Some(PathSeg::Named(Name {
-                start: s.start,
-                end: s.end,
-            }))
-        }
+        39..=40 if !same_bytes(part(text, s.start, s.end), b"this") => Some(PathSeg::Named(Name {
+            start: s.start,
+            end: s.end,
+        })),
         _ => None,
     }
 }
 
 // The first segment of a relative path and the path of the others, or there is none. Spans are
 // taken while their end is not beyond the path's.
+#[tactic(auto, unfolding(crate::specs::Path::segments_to))]
 pub fn next_segment(text: &[u8], words: &[u32], path: Relative) -> Option<(PathSeg, Relative)>
     ensures { SegmentIs text.now words.now path result }
 {
     let mut at = path.from;
-    loop {
-        let s = next_span(words, at)?;
-        if path.end < s.end {
-            return None;
-        }
+    while let Some(s) = next_span(words, at)
+        && s.end <= path.end
+    {
         at = s.number + 1;
         if let Some(segment) = segment_of(text, s) {
             return Some((segment, Relative { from: at, ..path }));
         }
     }
+    None
 }
 
 // The segments are ups and a name: how many ups, and the name.
+#[tactic(auto, unfolding(crate::specs::Path::ups_and_name))]
 fn ups_and_name(text: &[u8], words: &[u32], path: Relative) -> Option<(usize, Name)>
     ensures { local_means text.now result ≡ ups_and_name 0 (segments_mean text.now words.now path) }
 {
@@ -101,16 +98,18 @@ fn ups_and_name(text: &[u8], words: &[u32], path: Relative) -> Option<(usize, Na
     loop {
         let (segment, after) = next_segment(text, words, rest)?;
         match segment {
-            PathSeg::Up => {}
+            PathSeg::Up => {
+                level += 1;
+                rest = after;
+            }
             PathSeg::Named(name) => return Some((level, name)),
             _ => return None,
         }
-        level += 1;
-        rest = after;
     }
 }
 
 // The segments are here, ups and a name: how many ups, and the name.
+#[tactic(auto, unfolding(crate::specs::Path::local_name))]
 fn get_local_path_and_level(text: &[u8], words: &[u32], path: Relative) -> Option<(usize, Name)>
     ensures { local_means text.now result ≡ local_name (segments_mean text.now words.now path) }
 {
@@ -123,6 +122,7 @@ fn get_local_path_and_level(text: &[u8], words: &[u32], path: Relative) -> Optio
 
 impl Path {
     // Local, or else the relative path itself.
+    #[tactic(auto, unfolding(crate::specs::Path::path_of))]
     fn new(text: &[u8], words: &[u32], path: Relative) -> Path
         ensures { path_means text.now words.now result ≡ path_of (raw_means text.now (Path.Relative path)) (segments_mean text.now words.now path) }
     {
@@ -130,8 +130,8 @@ impl Path {
             Some((level, name)) => Path::Local(Local {
                 start: path.start,
                 end: path.end,
-                level: level,
-                name: name,
+                level,
+                name,
             }),
             None => Path::Relative(path),
         }
@@ -161,9 +161,8 @@ pub fn parse_json_path(text: &[u8], words: &[u32], reference: Span, at: usize) -
             from: at,
         },
     );
-    let next = skip_to(words, reference.end, at);
     PathRead {
-        path: path,
-        next: next,
+        path,
+        next: skip_to(words, reference.end, at),
     }
 }

@@ -20,17 +20,11 @@ impl Span {
     pub const ESCAPE: u32 = 4;
 }
 
-fn wide(x: u32) -> usize
-    ensures { result ≡ x }
-{
-    x as usize
-}
-
 // The word at an index, 0 past the end.
 fn word(words: &[u32], i: usize) -> u32
     ensures { result ≡ get_or words.now i 0 }
 {
-    if i < words.len() { words[i] } else { 0 }
+    words.get(i).copied().unwrap_or(0)
 }
 
 pub fn span_count(words: &[u32]) -> usize
@@ -43,68 +37,53 @@ pub fn span_count(words: &[u32]) -> usize
 pub fn span_at(words: &[u32], k: usize) -> Span
     ensures { result ≡ span_at words.now k }
 {
-    if span_count(words) < k {
-        return Span {
-            tag: 0,
-            start: 0,
-            end: 0,
-            number: k,
-        };
-    }
-    let tag = word(words, 3 * k);
-    let start = wide(word(words, 3 * k + 1));
-    let end = wide(word(words, 3 * k + 2));
+    let at = k.saturating_mul(3);
     Span {
-        tag: tag,
-        start: start,
-        end: end,
+        tag: word(words, at),
+        start: word(words, at.saturating_add(1)) as usize,
+        end: word(words, at.saturating_add(2)) as usize,
         number: k,
     }
 }
 
 // The first span from number `k` on that is no escape.
+#[tactic(auto, using(crate::proofs::Spans::passing))]
 pub fn next_span(words: &[u32], k: usize) -> Option<Span>
     ensures { NextIs words.now k result }
 {
-    let n = span_count(words);
-    let mut i = k;
-    while i < n {
+    for i in k..span_count(words) {
         let s = span_at(words, i);
         if s.tag != Span::ESCAPE {
             return Some(s);
         }
-        i += 1;
     }
     None
 }
 
 // The span of number `k`, if there is one and it is an escape.
+#[tactic(auto, using(crate::proofs::Spans::escaping))]
 pub fn escape_at(words: &[u32], k: usize) -> Option<Span>
     ensures { EscapeIs words.now k result }
 {
-    if span_count(words) <= k {
-        return None;
-    }
     let s = span_at(words, k);
-    if s.tag == Span::ESCAPE {
-        return Some(s);
+    if k < span_count(words) && s.tag == Span::ESCAPE {
+        Some(s)
+    } else {
+        None
     }
-    None
 }
 
 // The number from which the spans are that follow those, from number `k` on, whose end is not
 // beyond the limit.
+#[tactic(auto, using(crate::proofs::Spans::skipping))]
 pub fn skip_to(words: &[u32], limit: usize, k: usize) -> usize
     ensures { SkipIs words.now limit k result }
 {
     let mut at = k;
-    loop {
-        let Some(s) = next_span(words, at) else {
-            return at;
-        };
-        if limit < s.end {
-            return at;
-        }
+    while let Some(s) = next_span(words, at)
+        && s.end <= limit
+    {
         at = s.number + 1;
     }
+    at
 }

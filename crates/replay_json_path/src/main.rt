@@ -14,38 +14,28 @@ use support::bytes::part;
 // How many bytes of input are read.
 const LIMIT: usize = 65536;
 
-fn show(rt: &impl Print, bytes: &[u8]) -> io::Result<()> {
-    rt.write_all(bytes)
-}
-
-fn show_number(rt: &impl Print, n: usize) -> io::Result<()> {
-    rt.print(n)
+// The number of a span, or the word that says that there is none.
+fn show_span(rt: &impl Print, span: Option<Span>, none: &str) -> io::Result<()> {
+    match span {
+        Some(s) => rt.print(s.number),
+        None => rt.print(none),
+    }
 }
 
 // The number of the next walked span, or `end`.
 fn show_next(rt: &impl Print, words: &[u32], k: usize) -> io::Result<()> {
-    let Some(s) = next_span(words, k) else {
-        return show(rt, b"end");
-    };
-    show_number(rt, s.number)
-}
-
-fn show_escape(rt: &impl Print, words: &[u32], k: usize) -> io::Result<()> {
-    let Some(s) = escape_at(words, k) else {
-        return show(rt, b"none");
-    };
-    show_number(rt, s.number)
+    show_span(rt, next_span(words, k), "end")
 }
 
 fn show_segment(rt: &impl Print, text: &[u8], segment: PathSeg) -> io::Result<()> {
     match segment {
         PathSeg::Named(name) => {
-            show(rt, b" seg ")?;
-            show(rt, part(text, name.start, name.end))
+            rt.print(" seg ")?;
+            rt.write_all(part(text, name.start, name.end))
         }
-        PathSeg::Root => show(rt, b" root"),
-        PathSeg::Here => show(rt, b" here"),
-        PathSeg::Up => show(rt, b" up"),
+        PathSeg::Root => rt.print(" root"),
+        PathSeg::Here => rt.print(" here"),
+        PathSeg::Up => rt.print(" up"),
     }
 }
 
@@ -67,23 +57,19 @@ fn show_path(
     at: usize,
 ) -> io::Result<()> {
     let read = parse_json_path(text, words, reference, at);
-    let path = read.path;
-    match path {
+    match read.path {
         Path::Relative(p) => {
-            show(rt, b" path")?;
+            rt.print(" path")?;
             show_segments(rt, text, words, p)?;
         }
         Path::Local(p) => {
-            show(rt, b" local ")?;
-            show_number(rt, p.level)?;
-            show(rt, b" ")?;
-            let name = p.name;
-            show(rt, part(text, name.start, name.end))?;
+            print!(rt; " local {} ", p.level)?;
+            rt.write_all(part(text, p.name.start, p.name.end))?;
         }
     }
-    show(rt, b" raw ")?;
-    show(rt, path.raw(text))?;
-    show(rt, b" then ")?;
+    rt.print(" raw ")?;
+    rt.write_all(read.path.raw(text))?;
+    rt.print(" then ")?;
     show_next(rt, words, read.next)
 }
 
@@ -91,22 +77,17 @@ fn show_path(
 // the spans up to the span's end, and the path with this span as its reference.
 fn show_at(rt: &impl Print, text: &[u8], words: &[u32], k: usize) -> io::Result<()> {
     let s = span_at(words, k);
-    show(rt, b"span ")?;
-    show_number(rt, s.number)?;
-    show(rt, b" tag ")?;
-    show_number(rt, s.tag as usize)?;
-    show(rt, b" ")?;
-    show_number(rt, s.start)?;
-    show(rt, b" ")?;
-    show_number(rt, s.end)?;
-    show(rt, b" next ")?;
+    print!(rt;
+        "span {} tag {} {} {} next ",
+        s.number, s.tag, s.start, s.end
+    )?;
     show_next(rt, words, k)?;
-    show(rt, b" escape ")?;
-    show_escape(rt, words, k)?;
-    show(rt, b" skip ")?;
+    rt.print(" escape ")?;
+    show_span(rt, escape_at(words, k), "none")?;
+    rt.print(" skip ")?;
     show_next(rt, words, skip_to(words, s.end, k))?;
     show_path(rt, text, words, s, after(words, k))?;
-    show(rt, b"\n")
+    rt.println("")
 }
 
 // The number after `k`, as far as there are spans.
@@ -117,9 +98,7 @@ fn after(words: &[u32], k: usize) -> usize {
 // Every number up to two past the last span, and the largest of all.
 fn show_record(rt: &impl Print, text: &[u8], words: &[u32]) -> io::Result<()> {
     let n = span_count(words);
-    show(rt, b"count ")?;
-    show_number(rt, n)?;
-    show(rt, b"\n")?;
+    println!(rt; "count {n}")?;
     for k in 0..n + 2 {
         show_at(rt, text, words, k)?;
     }
@@ -132,6 +111,7 @@ fn replay_record(rt: &impl Print, text: &[u8], line: &[u8]) -> io::Result<()> {
     show_record(rt, text, &words[..n])
 }
 
+// Stays: `split` would give one more line behind the last LF, which is no record.
 fn replay(rt: &impl Print, input: &[u8]) -> io::Result<()> {
     let mut at: usize = 0;
     while at < input.len() {

@@ -1,10 +1,8 @@
 -- The loop passes over escapes: the spans walked from its index on are those walked from `k` on. Assumes nothing.
-use Prim.Native.Nat.{◌-◌}
-use Rattle.json_path.proofs.SpanLoops as laws
+use Prim.Native.Nat.{◌≤◌}
+use mathlib.Core.Path.{◌≡◌}
+use Rattle.json_path.specs.Span.{spans_from}
 use Rattle.json_path.proofs.span.next_span.Given as goal
 
 abbrev pub invariant-loop-i : goal.invariant-loop-i
-invariant-loop-i l = laws.Passing l.words l.k l.i
-
-abbrev pub decreases-loop-i : goal.decreases-loop-i
-decreases-loop-i l = l.n - l.i
+invariant-loop-i l = record { same : spans_from l.words l.k ≡ spans_from l.words l.i; onward : l.k ≤ l.i }

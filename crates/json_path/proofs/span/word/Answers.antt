@@ -1,7 +1,0 @@
--- Past the end the word is the default. Assumes nothing.
-use mathlib.Core.Path.{sym}
-use lib.ListN.{get_or-eq_default}
-use Rattle.json_path.proofs.span.word.Goals as goal
-
-pub returns-else-i-words : goal.returns-else-i-words
-returns-else-i-words c = sym (get_or-eq_default c.args.words.now 0 c.if-i-words.false)
