@@ -5,10 +5,20 @@ use native.Mathlib.Numerals.{add-one}
 use mathlib.Core.Path.{◌≡◌, refl, sym, ap, ◌∙◌}
 use mathlib.Core.List.{[], ◌∷◌, ◌++◌}
 use mathlib.Core.Bool.{Bool, true, false}
-use lib.ListN.{length, get_or, take, drop, take-append-drop, length-take, length-drop}
+use lib.ListN.{length, get_or, take, drop, take-append-drop, length-take, length-drop, drop_of_length-le}
+use mir.Val.{bool_byte}
 use lib.Seq.{take-suc, take-add, take_all, drop-cons, drop-length, get_or-take, get_or-drop}
 use Rattle.support.specs.Bytes.{Bytes, if}
 use Rattle.support.specs.Code.Blocks.{count}
+
+-- a test as a number
+pub byte_le : (r : Bool) → bool_byte r ≤ 1
+byte_le true = omega arith
+byte_le false = omega arith
+
+byte_is : (r : Bool) → bool_byte r ≡ if r 1 0
+byte_is true = refl
+byte_is false = refl
 
 module _ (f : ℕ → Bool) where
   pub count_one : (b : ℕ) (u : Bool) → f b ≡ u → count f (b ∷ []) ≡ if u 1 0
@@ -62,6 +72,13 @@ module _ (f : ℕ → Bool) where
       ap f (sym (get_or-take (e - i) (drop i t) (k - i) 0 (omega arith) ∙ get_or-drop i t (k - i) 0 ∙ ap (λ n. get_or t n 0) q))
       ∙ none_at (take (e - i) (drop i t)) (k - i) z (omega (arith, length-take (e - i) (drop i t), length-drop i t))
 
+  -- nor from i on
+  pub none_from : (t : Bytes) (i : ℕ) → ((k : ℕ) → i ≤ k → k < length t → f (get_or t k 0) ≡ false) → count f (drop i t) ≡ 0
+  unfolding count
+  none_from [] i h = ap (count f) (drop_of_length-le {A = ℕ} [] (omega arith))
+  none_from (b ∷ t) zero h = rw (h 0 (omega arith) (omega arith)) (none_from t 0 (λ k a l. h (suc k) (omega arith) (omega arith)))
+  none_from (b ∷ t) (suc i) h = none_from t i (λ k a l. h (suc k) (omega arith) (omega arith))
+
   -- from the end: a byte before those without, and some byte with
   pub past_end : (t : Bytes) → count f (drop (length t) t) ≡ 0
   unfolding count
@@ -84,14 +101,8 @@ module _ (f : ℕ → Bool) where
     pub counted_byte : {r : ℕ} → i < length t → r ≡ count f (get_or t i 0 ∷ []) → n + r ≡ count f (take (i + 1) t)
     counted_byte h k = let q = ap (count f) (take-suc t i 0 h) ∙ count_append (take i t) (get_or t i 0 ∷ []) in rw (add-one i) (omega arith)
 
-    pub counted_block : {r : ℕ} (j : ℕ) → i ≤ j → r ≡ count f (take (j - i) (drop i t)) → n + r ≡ count f (take j t)
-    counted_block j h k =
-        let m : i + (j - i) ≡ j = omega arith in
-        let q = ap (λ l. count f (take l t)) (sym m) ∙ ap (count f) (take-add i (j - i) t) ∙ count_append (take i t) (take (j - i) (drop i t)) in
-        omega arith
-
-    pub block_fits : {r : ℕ} (j : ℕ) → i ≤ j → length t < 0x10000000000000000 → r ≡ count f (take (j - i) (drop i t)) → n + r < 0x10000000000000000
-    block_fits j h l k = omega (arith, counted_block j h k, count_le (take j t), length-take j t)
+    pub counted_test : {r : Bool} → i < length t → r ≡ f (get_or t i 0) → n + bool_byte r ≡ count f (take (i + 1) t)
+    counted_test {r} h k = counted_byte h (byte_is r ∙ sym (count_one (get_or t i 0) r (sym k)))
 
     pub counted_all : length t ≤ i → n ≡ count f t
     counted_all h = e ∙ ap (count f) (take_all i t h)

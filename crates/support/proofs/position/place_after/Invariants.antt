@@ -1,12 +1,8 @@
--- `support::position::place_after` meets its contract: the invariant says that the place so far and the bytes left give the place asked for. Assumes nothing.
-use Prim.Native.Nat.{◌≤◌, ◌-◌}
+-- The place so far and the bytes left give the place asked for. Assumes nothing.
 use mathlib.Core.Path.{◌≡◌}
-use lib.ListN.{length, drop}
+use lib.ListN.{drop}
 use Rattle.support.specs.Position.{place_of, line_col}
 use Rattle.support.proofs.position.place_after.Given as goal
 
-abbrev pub invariant-loop-i : goal.invariant-loop-i
-invariant-loop-i l = (l.i ≤ length l.bytes) × (line_col (place_of l.initial.p) l.bytes ≡ line_col (place_of l.p) (drop l.i l.bytes))
-
-abbrev pub decreases-loop-i : goal.decreases-loop-i
-decreases-loop-i l = length l.bytes - l.i
+abbrev pub invariant-loop-b : goal.invariant-loop-b
+invariant-loop-b l = line_col (place_of l.initial.p) l.bytes ≡ line_col (place_of l.p) (drop l.b-index l.bytes)

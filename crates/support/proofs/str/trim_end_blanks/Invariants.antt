@@ -1,10 +1,11 @@
--- `support::str::trim_end_blanks` meets its contract: the invariant says that blanks lead back to `e`; a turn passes one blank. Assumes nothing.
-use Rattle.support.specs.TextRules.{blank_length}
-use Rattle.support.proofs.Pieces as pieces
+-- A turn passes one blank; what is left trims to the same. Assumes nothing.
+use mathlib.Core.Path.{◌≡◌}
+use lib.ListN.{length}
+use Rattle.support.specs.TextRules.{trim_end_blanks}
 use Rattle.support.proofs.str.trim_end_blanks.Given as goal
 
-abbrev pub invariant-loop-e : goal.invariant-loop-e
-invariant-loop-e l = pieces.ReachedBack blank_length l.s l.e
+abbrev pub invariant-loop-left : goal.invariant-loop-left
+invariant-loop-left l = trim_end_blanks l.left ≡ trim_end_blanks l.s
 
-abbrev pub decreases-loop-e : goal.decreases-loop-e
-decreases-loop-e l = l.e
+abbrev pub decreases-loop-left : goal.decreases-loop-left
+decreases-loop-left l = length l.left

@@ -1,12 +1,11 @@
--- `support::str::trim_start_blanks` meets its contract: the invariant says that blanks lead up to `i`; a turn passes one blank. Assumes nothing.
-use Prim.Native.Nat.{◌-◌}
+-- A turn passes one blank; what is left trims to the same. Assumes nothing.
+use mathlib.Core.Path.{◌≡◌}
 use lib.ListN.{length}
-use Rattle.support.specs.TextRules.{blank_length}
-use Rattle.support.proofs.Pieces as pieces
+use Rattle.support.specs.TextRules.{trim_start_blanks}
 use Rattle.support.proofs.str.trim_start_blanks.Given as goal
 
-abbrev pub invariant-loop-i : goal.invariant-loop-i
-invariant-loop-i l = pieces.Reached blank_length l.s l.i
+abbrev pub invariant-loop-left : goal.invariant-loop-left
+invariant-loop-left l = trim_start_blanks l.left ≡ trim_start_blanks l.s
 
-abbrev pub decreases-loop-i : goal.decreases-loop-i
-decreases-loop-i l = length l.s - l.i
+abbrev pub decreases-loop-left : goal.decreases-loop-left
+decreases-loop-left l = length l.left

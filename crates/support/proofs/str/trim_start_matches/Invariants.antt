@@ -1,13 +1,12 @@
--- `support::str::trim_start_matches` meets its contract: the invariant says that marks lead up to `i`; a turn passes one mark. Assumes nothing.
-use Prim.Native.Nat.{◌-◌}
+-- A turn passes one mark; what is left trims to the same. Assumes nothing.
+use Prim.Native.Nat.{◌<◌}
 use mathlib.Core.Path.{◌≡◌}
 use lib.ListN.{length}
-use Rattle.support.specs.TextRules.{match_length}
-use Rattle.support.proofs.Pieces as pieces
+use Rattle.support.specs.TextRules.{trim_start_matches}
 use Rattle.support.proofs.str.trim_start_matches.Given as goal
 
-abbrev pub invariant-loop-n : goal.invariant-loop-n
-invariant-loop-n l = (l.n ≡ length l.p) × pieces.Reached (match_length l.p) l.s l.i
+abbrev pub invariant-loop-rest : goal.invariant-loop-rest
+invariant-loop-rest l = (0 < length l.p) × (trim_start_matches l.p l.left ≡ trim_start_matches l.p l.s)
 
-abbrev pub decreases-loop-n : goal.decreases-loop-n
-decreases-loop-n l = length l.s - l.i
+abbrev pub decreases-loop-rest : goal.decreases-loop-rest
+decreases-loop-rest l = length l.left
