@@ -9,7 +9,7 @@ ghost use Rattle.listing.specs.Written.{Written};
 
 use crate::parameter::write_call;
 use crate::write::{put_bytes, write_part};
-use expression::parameter::{BlockParam, ExpressionRead, Subexpression};
+use expression::parameter::{BlockParam, Subexpression};
 use expression::parse::parse_expression;
 use json_path::path::Name;
 
@@ -32,13 +32,13 @@ fn write_pair(out: &mut [u8], at: usize, text: &[u8], a: Name, b: Name) -> usize
 }
 
 // `[as ..]` with one name or two, or nothing.
-pub fn write_block_param(out: &mut [u8], at: usize, text: &[u8], block: BlockParam) -> usize
+pub fn write_block_param(out: &mut [u8], at: usize, text: &[u8], block: Option<BlockParam>) -> usize
     ensures { Written (write_forms (block_param_forms (block_means text.now block) nil)) out.old at out.new result }
 {
     match block {
-        BlockParam::None => at,
-        BlockParam::Single(a) => write_single(out, at, text, a),
-        BlockParam::Pair(a, b) => write_pair(out, at, text, a, b),
+        None => at,
+        Some(BlockParam::Single(a)) => write_single(out, at, text, a),
+        Some(BlockParam::Pair(a, b)) => write_pair(out, at, text, a, b),
     }
 }
 
@@ -53,13 +53,10 @@ pub fn write_decorator(
 ) -> usize
     ensures { Written (write_forms (decorator_children text.now words.now link)) out.old at out.new result }
 {
-    let r = parse_expression(text, words, link.from, link.limit, link.depth, false);
-    let ExpressionRead::Done(x) = r else {
+    let Ok(x) = parse_expression(text, words, link.from, link.limit, link.depth, false) else {
         return put_bytes(out, at, b"[name \"\"]\n");
     };
-    let name = x.name;
-    let parts = x.parts;
-    write_call(out, at, text, words, name, parts)
+    write_call(out, at, text, words, x.name, x.parts)
 }
 
 // The same, and the block parameters.
@@ -72,13 +69,9 @@ pub fn write_helper(
 ) -> usize
     ensures { Written (write_forms (helper_children text.now words.now link)) out.old at out.new result }
 {
-    let r = parse_expression(text, words, link.from, link.limit, link.depth, false);
-    let ExpressionRead::Done(x) = r else {
+    let Ok(x) = parse_expression(text, words, link.from, link.limit, link.depth, false) else {
         return put_bytes(out, at, b"[name \"\"]\n");
     };
-    let name = x.name;
-    let parts = x.parts;
-    let block = x.block_param;
-    let p = write_call(out, at, text, words, name, parts);
-    write_block_param(out, p, text, block)
+    let p = write_call(out, at, text, words, x.name, x.parts);
+    write_block_param(out, p, text, x.block_param)
 }

@@ -13,14 +13,12 @@ ghost use Rattle.listing.specs.Held.{EntryRead, All, held_keys};
 ghost use Rattle.listing.specs.Listing.{param_form, call_forms, param_forms, key_forms};
 ghost use Rattle.listing.specs.Written.{Written};
 
-use crate::keys::{Held, hold_keys};
+use crate::keys::hold_keys;
 use crate::path::write_path;
 use crate::requote::write_requoted;
 use crate::write::{put_bytes, write_part};
-use expression::again::{Bound, KeyStep, ParamStep, enter, next_key, next_param};
-use expression::parameter::{
-    ExpressionRead, Hash, HashRead, Literal, Parameter, Parts, Subexpression,
-};
+use expression::again::{enter, next_key, next_param};
+use expression::parameter::{Hash, Literal, Parameter, Parts, Subexpression};
 use expression::parse::parse_hash;
 use json_path::path::Name;
 use support::bytes::part;
@@ -84,19 +82,16 @@ fn write_subexpression(
 ) -> usize
     ensures { Written (write_form (param_form (param_means text.now words.now (Parameter.Subexpression s)))) out.old at out.new result }
 {
-    let r = enter(text, words, s);
-    let ExpressionRead::Done(x) = r else {
+    let Ok(x) = enter(text, words, s) else {
         return put_bytes(out, at, b"[sub\n[name \"\"]\n]\n");
     };
-    let name = x.name;
-    let parts = x.parts;
     let p = put_bytes(out, at, b"[sub\n");
-    let q = write_call(out, p, text, words, name, parts);
+    let q = write_call(out, p, text, words, x.name, x.parts);
     put_bytes(out, q, b"]\n")
 }
 
 // Name, parameters, keys in byte order. A link that a reader answered can be read again: this and the
-// writers of all parameters and keys ask for that, so that `Failed` does not occur in them.
+// writers of all parameters and keys ask for that, so that no fault occurs in them.
 #[cycle(writers)]
 pub(crate) fn write_call(
     out: &mut [u8],
@@ -121,21 +116,11 @@ fn write_params(out: &mut [u8], at: usize, text: &[u8], words: &[u32], parts: Pa
 {
     let mut p = at;
     let mut rest = parts;
-    loop {
-        let n = next_param(text, words, rest);
-        match n {
-            ParamStep::Param(v, after) => {
-                p = write_param(out, p, text, words, v);
-                rest = after;
-            }
-            ParamStep::End => {
-                return p;
-            }
-            ParamStep::Failed(_) => {
-                return p;
-            }
-        }
+    while let Ok(Some((v, after))) = next_param(text, words, rest) {
+        p = write_param(out, p, text, words, v);
+        rest = after;
     }
+    p
 }
 
 // Most calls have few keys.
@@ -145,8 +130,7 @@ fn write_keys(out: &mut [u8], at: usize, text: &[u8], words: &[u32], parts: Part
     ensures { Written (write_forms (key_forms (read_or no_keys (keys_read text.now words.now parts)) nil)) out.old at out.new result }
 {
     let mut held = [0usize; 16];
-    let h = hold_keys(text, words, parts, &mut held);
-    let Held::Keys(n) = h else {
+    let Some(n) = hold_keys(text, words, parts, &mut held) else {
         return write_many_keys(out, at, text, words, parts);
     };
     write_held(out, at, text, words, parts.depth, &held[0..n])
@@ -159,8 +143,7 @@ fn write_many_keys(out: &mut [u8], at: usize, text: &[u8], words: &[u32], parts:
     ensures { Written (write_forms (key_forms (read_or no_keys (keys_read text.now words.now parts)) nil)) out.old at out.new result }
 {
     let mut held = [0usize; 1366];
-    let h = hold_keys(text, words, parts, &mut held);
-    let Held::Keys(n) = h else {
+    let Some(n) = hold_keys(text, words, parts, &mut held) else {
         return write_least_keys(out, at, text, words, parts);
     };
     write_held(out, at, text, words, parts.depth, &held[0..n])
@@ -182,8 +165,7 @@ fn write_held(
     let mut p = at;
     let mut i = 0;
     while i < held.len() {
-        let r = parse_hash(text, words, held[i], depth, false);
-        let HashRead::Done(hash, _) = r else {
+        let Ok((hash, _)) = parse_hash(text, words, held[i], depth, false) else {
             return p;
         };
         p = write_hash(out, p, text, words, hash);
@@ -199,23 +181,12 @@ fn write_least_keys(out: &mut [u8], at: usize, text: &[u8], words: &[u32], parts
     ensures { Written (write_forms (key_forms (read_or no_keys (keys_read text.now words.now parts)) nil)) out.old at out.new result }
 {
     let mut p = at;
-    let mut bound = Bound::None;
-    loop {
-        let n = next_key(text, words, parts, bound);
-        match n {
-            KeyStep::Key(h) => {
-                let key = h.key;
-                p = write_hash(out, p, text, words, h);
-                bound = Bound::Above(key);
-            }
-            KeyStep::End => {
-                return p;
-            }
-            KeyStep::Failed(_) => {
-                return p;
-            }
-        }
+    let mut bound = None;
+    while let Ok(Some(h)) = next_key(text, words, parts, bound) {
+        p = write_hash(out, p, text, words, h);
+        bound = Some(h.key);
     }
+    p
 }
 
 // A key with its value.
@@ -223,9 +194,7 @@ fn write_least_keys(out: &mut [u8], at: usize, text: &[u8], words: &[u32], parts
 pub fn write_hash(out: &mut [u8], at: usize, text: &[u8], words: &[u32], h: Hash) -> usize
     ensures { Written (write_forms (key_forms (key (name_means text.now h.key) (param_means text.now words.now h.value) no_keys) nil)) out.old at out.new result }
 {
-    let key = h.key;
-    let value = h.value;
-    let p = write_key(out, at, text, key);
-    let q = write_param(out, p, text, words, value);
+    let p = write_key(out, at, text, h.key);
+    let q = write_param(out, p, text, words, h.value);
     put_bytes(out, q, b"]\n")
 }

@@ -6,7 +6,7 @@ ghost use Rattle.listing.specs.Listing.{segment_form, segment_forms, path_form};
 ghost use Rattle.listing.specs.Written.{Written};
 
 use crate::write::{put_bytes, write_decimal, write_part};
-use json_path::path::{Local, Path, PathSeg, Relative, SegmentRead, next_segment};
+use json_path::path::{Local, Path, PathSeg, Relative, next_segment};
 
 fn write_segment(out: &mut [u8], at: usize, text: &[u8], segment: PathSeg) -> usize
     ensures { Written (write_form (segment_form (segment_means text.now segment))) out.old at out.new result }
@@ -29,14 +29,11 @@ fn write_segments(out: &mut [u8], at: usize, text: &[u8], words: &[u32], path: R
 {
     let mut p = at;
     let mut rest = path;
-    loop {
-        let n = next_segment(text, words, rest);
-        let SegmentRead::Segment(segment, after) = n else {
-            return p;
-        };
+    while let Some((segment, after)) = next_segment(text, words, rest) {
         p = write_segment(out, p, text, segment);
         rest = after;
     }
+    p
 }
 
 // The raw text and the segments.

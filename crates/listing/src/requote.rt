@@ -6,7 +6,7 @@ ghost use Rattle.listing.specs.Quoted.{quoted};
 ghost use Rattle.listing.specs.Written.{Written, onward};
 
 use crate::write::{put, put_escaped};
-use literal::requote::{Place, Quoted, next_quoted};
+use literal::requote::{Place, next_quoted};
 use support::bytes::block_end;
 
 // How many bytes are written for a byte of the inner text. `"` is rewritten to `\"`, of which both
@@ -76,14 +76,11 @@ fn write_requoted_each(out: &mut [u8], at: usize, inner: &[u8]) -> usize
 {
     let mut p = put(out, at, b'"');
     let mut place = Place::Opening;
-    loop {
-        let n = next_quoted(inner, place);
-        let Quoted::Byte(b, next) = n else {
-            return put(out, p, b'"');
-        };
+    while let Some((b, next)) = next_quoted(inner, place) {
         p = put_escaped(out, p, b);
         place = next;
     }
+    put(out, p, b'"')
 }
 
 // The rewritten text, quoted. Where no byte can be stored its bytes are only counted. Six of them are
