@@ -2,66 +2,36 @@
 -- Assumes nothing.
 use Prim.Native.Nat.{ℕ, suc, ◌+◌, ◌-◌, ◌≤◌, ◌<◌}
 use native.Mathlib.Omega.{arith}
+use native.Mathlib.Numerals.{add-one}
 use mathlib.Core.Path.{◌≡◌, sym, ap, subst, ◌∙◌}
-use mathlib.Core.List.{List, ◌∷◌, ◌++◌}
+use mathlib.Core.List.{List, [], ◌∷◌, ◌++◌, append_assoc}
 use mathlib.Core.Bool.{true, false}
 use lib.ListN.{length, get_or, take, drop, set, length-append, length-take, length-drop, length-set}
-use lib.Seq.{drop-cons, get_or_at, take-set-lt, get_or-take, get_or-drop, take-take, take-add, drop_at, length-take-le, paste, paste-zero, paste-suc, length-paste, length_paste_head, take-paste}
+use lib.Seq.{take-suc, take-set-lt, get_or-take, take-take, take-add, drop_at, length-take-le, paste, length-paste, take-paste}
+use Rattle.std.proofs.lemmas.List.{set_at}
 use Rattle.support.specs.Bytes.{Bytes, same_bytes}
 use Rattle.listing.specs.Held.{InOrder, put_entry, PlaceIs, CellsHold}
-use Rattle.listing.specs.declared.keys.Held.TheVariants as Held
+use Rattle.std.specs.Prelude.{Some, None}
 use Rattle.listing.proofs.Entries.{put_same, put_new}
 
--- ---- moving on: up to i those from the place on are stored one later, and the one that stood before i is in hand
+-- ---- moving on by one
 
-pub record Moving (h : List ℕ) (place count e : ℕ) (cells : List ℕ) (moved i : ℕ) : Type 0 where
-  pub from : place ≤ i
-  pub upto : i ≤ count + 1
-  pub stored : cells ≡ paste h place (e ∷ drop place h) (i - place)
-  pub next : moved ≡ get_or (e ∷ drop place h) (i - place) 0
-
-module _ (h : List ℕ) (place count e : ℕ) (a : place ≤ count) (b : count < length h) where
-  pub moving_begins : Moving h place count e h e place
-  moving_begins =
-      let z : 0 ≡ place - place = omega arith in
-      record {
-        from = omega arith;
-        upto = omega arith;
-        stored = paste-zero h place (e ∷ drop place h) ∙ ap (paste h place (e ∷ drop place h)) z;
-        next = ap (λ n. get_or (e ∷ drop place h) n 0) z;
-      }
-
-  module _ {cells : List ℕ} {moved i : ℕ} (g : Moving h place count e cells moved i) where
-    pub moving_length : length cells ≡ length h
-    moving_length =
-        let s = length-drop place h in
-        ap length g.stored ∙ length-paste h place (e ∷ drop place h) (i - place) (omega (arith, g.from, g.upto)) (omega (arith, g.from, g.upto))
-
-    pub moving_on : i ≤ count → Moving h place count e (set cells i moved) (get_or cells i 0) (i + 1)
-    moving_on l =
-        let s : List ℕ = e ∷ drop place h in
-        let k : ℕ = i - place in
-        let q : i ≡ place + k = omega (arith, g.from) in
-        let r : suc k ≡ i + 1 - place = omega (arith, g.from) in
-        let d = length-drop place h in
-        let x : k < length s = omega (arith, g.from) in
-        let y : place + k < length h = omega (arith, g.from) in
-        record {
-          from = omega (arith, g.from);
-          upto = omega arith;
-          stored =
-              ap (λ z. set z i moved) g.stored ∙ ap (set (paste h place s k) i) g.next ∙ ap (λ n. set (paste h place s k) n (get_or s k 0)) q
-              ∙ paste-suc h place s k 0 y x ∙ ap (paste h place s) r;
-          next =
-              ap (λ z. get_or z i 0) g.stored ∙ ap (λ n. get_or (paste h place s k) n 0) q
-              ∙ ap (λ z. get_or (take place h ++ take k s ++ z) (place + k) 0) (drop-cons h (place + k) 0 y)
-              ∙ get_or_at (take place h ++ take k s) (get_or h (place + k) 0) (drop (suc (place + k)) h) 0 (place + k) (length_paste_head h place s k (omega arith) (omega arith))
-              ∙ sym (get_or-drop place h k 0)
-              ∙ ap (λ n. get_or s n 0) r;
-        }
-
-    pub moving_ends : count < i → cells ≡ paste h place (e ∷ drop place h) (count + 1 - place)
-    moving_ends l = let q : i ≡ count + 1 = omega (arith, g.upto) in g.stored ∙ ap (λ n. paste h place (e ∷ drop place h) (n - place)) q
+pub moved : (h : List ℕ) (place count e : ℕ) → place ≤ count → count < length h
+    → set (paste h (place + 1) (drop place h) (count - place)) place e ≡ paste h place (e ∷ drop place h) (count + 1 - place)
+moved h place count e a b =
+    let k : ℕ = count - place in
+    let q : suc k ≡ count + 1 - place = omega arith in
+    let front = take place h in
+    let x = get_or h place 0 in
+    let run = take k (drop place h) in
+    let n : place + 1 + k ≡ place + suc k = omega arith in
+    let rest = drop (place + suc k) h in
+    let whole : paste h (place + 1) (drop place h) k ≡ front ++ x ∷ (run ++ rest) =
+    ap (λ z. take (place + 1) h ++ run ++ drop z h) n
+    ∙ ap (λ z. z ++ run ++ rest) (rw (add-one place, take-suc h place 0 (omega arith)))
+    ∙ append_assoc (front ++ x ∷ []) run rest ∙ append_assoc front (x ∷ []) (run ++ rest) in
+    ap (λ z. set z place e) whole ∙ set_at front x (run ++ rest) e place (length-take-le place h (omega arith))
+    ∙ sym (append_assoc front (e ∷ run) rest) ∙ ap (paste h place (e ∷ drop place h)) q
 
 -- ---- after one more entry
 
@@ -80,7 +50,7 @@ module _ (f : ℕ → Bytes) (e : ℕ) (h : List ℕ) (n : ℕ) (b : n ≤ lengt
   count : length (take n h) ≡ n
   count = length-take-le n h b
 
-  pub held_same : i < n → same_bytes (f (get_or h i 0)) (f e) ≡ true → CellsHold (put_entry f e (take n h)) (set h i e) (Held.Keys n)
+  pub held_same : i < n → same_bytes (f (get_or h i 0)) (f e) ≡ true → CellsHold (put_entry f e (take n h)) (set h i e) (Some n)
   held_same l s = record {
     means = (
       omega (arith, length-set h i e),
@@ -94,14 +64,14 @@ module _ (f : ℕ → Bytes) (e : ℕ) (h : List ℕ) (n : ℕ) (b : n ≤ lengt
         put_new f e (take n h) i p
         (λ l. let m : i < n = omega (arith, count) in ap (λ z. same_bytes (f z) (f e)) (get_or-take n h i 0 m) ∙ s m)
 
-    pub held_full : length h ≤ n → CellsHold (put_entry f e (take n h)) h Held.TooMany
+    pub held_full : length h ≤ n → CellsHold (put_entry f e (take n h)) h None
     held_full l =
         let a = length-append (take i (take n h)) (e ∷ drop i (take n h)) in
         let c = length-take i (take n h) in
         let d = length-drop i (take n h) in
         record { means = omega (arith, ap length new, count, p.inside) }
 
-    pub held_new : n < length h → CellsHold (put_entry f e (take n h)) (paste h i (e ∷ drop i h) (n + 1 - i)) (Held.Keys (n + 1))
+    pub held_new : n < length h → CellsHold (put_entry f e (take n h)) (paste h i (e ∷ drop i h) (n + 1 - i)) (Some (n + 1))
     held_new l =
         let m : ℕ = n - i in
         let q : n ≡ i + m = omega (arith, count, p.inside) in

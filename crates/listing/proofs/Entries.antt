@@ -1,6 +1,6 @@
 -- Entries in byte order: putting one in keeps the order, gives the specification's keys, and happens at the place that a search finds.
 -- By induction on the entries. Assumes nothing.
-use Prim.Native.Nat.{ℕ, zero, suc, ◌+◌, ◌≤◌, ◌<◌}
+use Prim.Native.Nat.{ℕ, zero, suc, ◌≤◌, ◌<◌}
 use native.Mathlib.Omega.{arith}
 use mathlib.Core.Path.{◌≡◌, refl, sym, ap, subst, ◌∙◌}
 use mathlib.Core.List.{List, [], ◌∷◌, ◌++◌}
@@ -9,11 +9,12 @@ use mathlib.Core.Option.{Option, none, some}
 use lib.Dec.{ltb}
 use lib.ListN.{length, get_or, take, drop, set}
 use borrow.Author.Tests.{ltb-true, ltb-false}
+use Rattle.std.proofs.lemmas.Grind.{get_or_default_zero}
 use Rattle.support.specs.Bytes.{Bytes, same_bytes, precedes}
 use Rattle.support.proofs.ByteLaws.{same_true}
 use Rattle.expression.specs.Expression.{Param, Keys, no_keys, key, insert_key}
 use Rattle.expression.specs.Again.{is_above}
-use Rattle.expression.proofs.Order.{transitive, comes_after, never}
+use Rattle.expression.proofs.Order.{transitive, comes_after}
 use Rattle.listing.specs.Held.{All, Before, InOrder, keys_by, put_entry, key_count, PlaceIs}
 use Rattle.listing.proofs.KeyInserts.{insert_before, insert_twice, insert_swap, count_above, count_insert}
 
@@ -155,33 +156,11 @@ module _ (f : ℕ → Bytes) where
     put_new (b ∷ es) (suc i) h s =
         put_later b es (h.before 0 (omega arith)) ∙ ap (λ z. b ∷ z) (put_new es i (place_later h) (λ l. s (omega arith)))
 
--- ---- the search: the place is between low and high
-
-pub record Between (f : ℕ → Bytes) (k : Bytes) (es : List ℕ) (low high : ℕ) : Type 0 where
-  pub ordered : low ≤ high
-  pub inside : high ≤ length es
-  pub before : (j : ℕ) → j < low → precedes (f (get_or es j 0)) k ≡ true
-  pub after : (j : ℕ) → high ≤ j → j < length es → precedes (f (get_or es j 0)) k ≡ false
-
-module _ (f : ℕ → Bytes) (k : Bytes) (es : List ℕ) where
-  pub search_begins : Between f k es 0 (length es)
-  search_begins = record { ordered = omega arith; inside = omega arith; before = λ j l. absurd (omega arith); after = λ j l m. absurd (omega arith) }
-
-  pub search_ends : {low high : ℕ} → Between f k es low high → high ≤ low → PlaceIs f k es low
-  search_ends b h = record { inside = omega (arith, b.ordered, b.inside); before = b.before; after = λ j l m. b.after j (omega (arith, b.ordered)) m }
-
-  module _ (o : InOrder f es) {low high : ℕ} (b : Between f k es low high) (m : ℕ) (h : low ≤ m) (l : m < high) where
-    pub search_up : precedes (f (get_or es m 0)) k ≡ true → Between f k es (m + 1) high
-    search_up t = record { ordered = omega arith; inside = b.inside; before = λ j i. go j i (ltb j m) refl; after = b.after }
-      where
-        go : (j : ℕ) → j < m + 1 → (u : Bool) → ltb j m ≡ u → precedes (f (get_or es j 0)) k ≡ true
-        go j i true e = transitive (f (get_or es j 0)) (f (get_or es m 0)) k (in_order f es j m o (ltb-true j m e) (omega (arith, b.inside))) t
-        go j i false e = let q : j ≡ m = omega (arith, ltb-false j m e) in ap (λ z. precedes (f (get_or es z 0)) k) q ∙ t
-
-    pub search_down : precedes (f (get_or es m 0)) k ≡ false → Between f k es low m
-    search_down t = record { ordered = h; inside = omega (arith, b.inside); before = b.before; after = λ j i n. go j i n (ltb m j) refl (precedes (f (get_or es j 0)) k) refl }
-      where
-        go : (j : ℕ) → m ≤ j → j < length es → (u : Bool) → ltb m j ≡ u → (p : Bool) → precedes (f (get_or es j 0)) k ≡ p → p ≡ false
-        go j i n u e false q = refl
-        go j i n true e true q = absurd (never (transitive (f (get_or es m 0)) (f (get_or es j 0)) k (in_order f es m j o (ltb-true m j e) n) q) t)
-        go j i n false e true q = let r : j ≡ m = omega (arith, ltb-false m j e) in absurd (never q (ap (λ z. precedes (f (get_or es z 0)) k) r ∙ t))
+-- those that stand before a key come first
+pub parted : (f : ℕ → Bytes) (k : Bytes) (es : List ℕ) → InOrder f es → (i j d : ℕ) → i ≤ j → j < length es
+    → precedes (f (get_or es j d)) k ≡ true → precedes (f (get_or es i d)) k ≡ true
+parted f k es o i j d h l t = go (ltb i j) refl
+  where
+    go : (u : Bool) → ltb i j ≡ u → precedes (f (get_or es i d)) k ≡ true
+    go true e = rw (get_or_default_zero es i d (omega (arith, ltb-true i j e))) (transitive (f (get_or es i 0)) (f (get_or es j 0)) k (in_order f es i j o (ltb-true i j e) l) (rw (get_or_default_zero es j d l) at t))
+    go false e = let q : i ≡ j = omega (arith, ltb-false i j e) in ap (λ z. precedes (f (get_or es z d)) k) q ∙ t

@@ -23,8 +23,8 @@ use Rattle.expression.specs.declared.parameter.Parameter.{Parameter}
 use Rattle.expression.specs.declared.parameter.BlockParam.{BlockParam}
 use Rattle.expression.proofs.Equations.{parts_end, parts_stop, parts_next}
 use Rattle.expression.proofs.Lists.{one, tail, along}
-use Rattle.listing.specs.Held.{first_text, value_of, entry_key, entry_value, EntryRead, EntryIs, All, InOrder, put_entry, key_count, CellsHold, EntryHeld, PartHeld, KeysHeld, HeldIs}
-use Rattle.listing.specs.declared.keys.Held.{Held}
+use Rattle.listing.specs.Held.{first_text, value_of, entry_key, entry_value, EntryRead, EntryIs, All, InOrder, put_entry, key_count, CellsHold, EntryHeld, PartHeld, KeysHeld}
+use Rattle.std.specs.Prelude.{Option, Some, None}
 use Rattle.listing.proofs.Entries.{all_put, order_put, onto, onto_put, onto_none, at_least}
 
 -- ---- the number and the key of an entry
@@ -44,7 +44,7 @@ module _ (words : List ℕ) (from : ℕ) where
 
 -- ---- after a part, told by its case
 
-module _ (text : Bytes) (words : List ℕ) (from : ℕ) {x : Part} (es : List ℕ) {cells : List ℕ} {r : Held} where
+module _ (text : Bytes) (words : List ℕ) (from : ℕ) {x : Part} (es : List ℕ) {cells : List ℕ} {r : Option ℕ} where
   pub part_key : {h : Hash} → x ≡ Part.Hash h → {e : ℕ} → EntryIs words from e → CellsHold (put_entry (entry_key text words) e es) cells r
       → PartHeld text words from x es cells r
   part_key q {e} i h = subst (λ z. PartHeld text words from z es cells r) (sym q) (record { means = record { entry = e; is = i; hold = h } })
@@ -52,7 +52,7 @@ module _ (text : Bytes) (words : List ℕ) (from : ℕ) {x : Part} (es : List �
 -- a part that is no key changes nothing
 module _ (text : Bytes) (words : List ℕ) (from : ℕ) (cells : List ℕ) (n : ℕ) (b : n ≤ length cells) where
   abbrev Same : Part → Type 0
-  Same x = PartHeld text words from x (take n cells) cells (Held.Keys n)
+  Same x = PartHeld text words from x (take n cells) cells (Some n)
 
   pub part_param : {x : Part} {p : Parameter} → x ≡ Part.Param p → Same x
   part_param q = subst Same (sym q) (record { means = record { means = (b, refl) } })
@@ -159,7 +159,7 @@ module _ {text : Bytes} {words : List ℕ} {p rest : Parts} {cells : List ℕ} {
       }
 
   -- after the part x the entries are es
-  module _ {x : Part} {q : Parts} (i : FirstPart false text words rest x q) {es more : List ℕ} {m : ℕ} (h : CellsHold es more (Held.Keys m)) where
+  module _ {x : Part} {q : Parts} (i : FirstPart false text words rest x q) {es more : List ℕ} {m : ℕ} (h : CellsHold es more (Some m)) where
     next : InOrder f es → All (EntryRead text words p.depth) es
         → ((ys : List spec.Part) → onto f v (take n cells) (keys_of (part_means text words x ∷ ys)) ≡ onto f v es (keys_of ys))
         → Holding text words p q more m
@@ -197,7 +197,7 @@ module _ {text : Bytes} {words : List ℕ} {p rest : Parts} {cells : List ℕ} {
         ∙ ap (λ z. onto f v es (insert_key (name_means text h.key) z (keys_of ys))) w)
 
   keyed : {h : Hash} {q : Parts} → FirstPart false text words rest (Part.Hash h) q → {more : List ℕ} {m : ℕ}
-      → EntryHeld text words rest.from (take n cells) more (Held.Keys m) → Holding text words p q more m
+      → EntryHeld text words rest.from (take n cells) more (Some m) → Holding text words p q more m
   keyed {h} i a =
       let r = key_read i a.is in
       next i a.hold (order_put f a.entry (take n cells) g.order)
@@ -205,7 +205,7 @@ module _ {text : Bytes} {words : List ℕ} {p rest : Parts} {cells : List ℕ} {
       (key_put i a.is)
 
   pub holding_on : (x : Part) {q : Parts} → FirstPart false text words rest x q → {more : List ℕ} {m : ℕ}
-      → PartHeld text words rest.from x (take n cells) more (Held.Keys m) → Holding text words p q more m
+      → PartHeld text words rest.from x (take n cells) more (Some m) → Holding text words p q more m
   unfolding keys_of
   holding_on (Part.Hash h) i a = keyed i a.means
   holding_on (Part.Param w) i a = next i a.means g.order g.read (λ ys. refl)
@@ -214,7 +214,7 @@ module _ {text : Bytes} {words : List ℕ} {p rest : Parts} {cells : List ℕ} {
   holding_on Part.Skipped i a = next i a.means g.order g.read (λ ys. refl)
 
   -- there is no cell for the part
-  full : {es more : List ℕ} → CellsHold es more Held.TooMany → InOrder f es → (ys : List spec.Part)
+  full : {es more : List ℕ} → CellsHold es more None → InOrder f es → (ys : List spec.Part)
       → onto f v (take n cells) (keys_of g.left) ≡ onto f v es (keys_of ys) → length more < key_count (read_or no_keys (keys_read text words p))
   full {es} h o ys k =
       let a = ap (λ z. key_count (read_or no_keys z)) g.keys.reads in
@@ -222,11 +222,11 @@ module _ {text : Bytes} {words : List ℕ} {p rest : Parts} {cells : List ℕ} {
       let c = at_least f v es (keys_of ys) o in
       omega (arith, h.means)
 
-  no_key : {more : List ℕ} → length more ≡ length cells → CellsHold (take n cells) more Held.TooMany → ⊥
+  no_key : {more : List ℕ} → length more ≡ length cells → CellsHold (take n cells) more None → ⊥
   no_key e h = let l = length-take-le n cells g.fits in absurd (omega (arith, h.means, g.fits))
 
   pub holding_full : (x : Part) {q : Parts} → FirstPart false text words rest x q → {more : List ℕ} → length more ≡ length cells
-      → PartHeld text words rest.from x (take n cells) more Held.TooMany → length more < key_count (read_or no_keys (keys_read text words p))
+      → PartHeld text words rest.from x (take n cells) more None → length more < key_count (read_or no_keys (keys_read text words p))
   holding_full (Part.Hash h) {q} i e a =
       let t = tail (λ ys. hash_means text words h ∷ ys) (parts_read false text words q) (along i.first g.reads) in
       let b = a.means in
@@ -236,17 +236,3 @@ module _ {text : Bytes} {words : List ℕ} {p rest : Parts} {cells : List ℕ} {
   holding_full (Part.BlockParam w) i e a = absurd (no_key e a.means)
   holding_full Part.RightTilde i e a = absurd (no_key e a.means)
   holding_full Part.Skipped i e a = absurd (no_key e a.means)
-
--- ---- the answers, told by their case
-
-module _ {text : Bytes} {words : List ℕ} {cells : List ℕ} {r : Held} {n : ℕ} (e : r ≡ Held.Keys n) where
-  pub keys_held : {p : Parts} → HeldIs text words p cells r → KeysHeld text words p cells n
-  keys_held {p} h = (subst (λ z. HeldIs text words p cells z) e h).means
-
-  pub part_kept : {from : ℕ} {x : Part} {es : List ℕ} → PartHeld text words from x es cells r
-      → PartHeld text words from x es cells (Held.Keys n)
-  part_kept {from} {x} {es} h = subst (λ z. PartHeld text words from x es cells z) e h
-
-pub part_left : {text : Bytes} {words : List ℕ} {from : ℕ} {x : Part} {es cells : List ℕ} {r : Held} → r ≡ Held.TooMany
-    → PartHeld text words from x es cells r → PartHeld text words from x es cells Held.TooMany
-part_left {text} {words} {from} {x} {es} {cells} e h = subst (λ z. PartHeld text words from x es cells z) e h

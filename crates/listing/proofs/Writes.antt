@@ -8,7 +8,7 @@ use mathlib.Core.List.{[], ◌∷◌, ◌++◌, append-nil, append_assoc}
 use mathlib.Core.Bool.{Bool, true, false}
 use lib.Dec.{leb, ltb, eqb}
 use lib.ListN.{length, get_or, take, drop, set, length-append, length-take, length-drop, take-append-drop}
-use lib.Seq.{sets, paste, set_out, length-sets, take-suc, take_all}
+use lib.Seq.{drop-append-add, sets, paste, set_out, length-sets, take-suc, take_all}
 use borrow.Rule.Slice.PartMut.{put_mid}
 use Rattle.std.proofs.lemmas.List.{nil_from_length}
 use Rattle.std.proofs.lemmas.List.Edits.{sets-eq}
@@ -184,13 +184,45 @@ escapes_byte {k = k} s i h a b =
     let e : Escapes (b' ∷ []) k = (b.0, ap length (append-nil (escape b')) ∙ b.1) in
     rw (add-one i, take-suc s i 0 h) (escapes_join (take i s) (b' ∷ []) a e)
 
-pub escapes_block : {n k : ℕ} {s rest : Bytes} (x left : Bytes) → rest ≡ x ++ left → Escapes x k → Passed (λ y. Escapes y n) s rest → Passed (λ y. Escapes y (n + k)) s left
-escapes_block {n} {k} x left e b = passed_more (λ y. Escapes y (n + k)) x left e (λ y a. escapes_join y x a b)
+-- a walk by blocks of 128 bytes: n bytes have an escape of those before `rest` and those behind the last whole block
+pub record Counted (s rest end : Bytes) (n : ℕ) : Type 0 where
+  pub front : Bytes
+  pub joined : s ≡ front ++ rest
+  pub last : end ≡ drop (length rest - length rest % 128) rest
+  pub count : Escapes (front ++ end) n
 
--- their number does not pass the text's length
-pub escapes_room : {n k : ℕ} {s rest : Bytes} (x left : Bytes) → rest ≡ x ++ left → k ≤ length x → Passed (λ y. Escapes y n) s rest → n + k ≤ length s
-escapes_room {n} {k} {s} {rest} x left e h p =
-    omega (arith, p.holds.0, ap length p.joined, ap length e, length-append p.front rest, length-append x left)
+pub counted_none : {s rest end x : Bytes} {n : ℕ} → rest ≡ s → end ≡ drop (length s - length s % 128) s → x ≡ end → Escapes x n → Counted s rest end n
+counted_none {s} {rest} {end} {x} {n} e f g h = record { front = []; joined = sym e; last = f ∙ ap (λ z. drop (length z - length z % 128) z) (sym e); count = subst (λ z. Escapes z n) g h }
+
+module _ {s rest end : Bytes} {n : ℕ} (g : Counted s rest end n) where
+  module _ (x left : Bytes) (h : length x ≡ 128) (e : rest ≡ x ++ left) {k : ℕ} (a : Escapes x k) where
+    tail : end ≡ drop (length left - length left % 128) left
+    tail =
+        let d = ap length e ∙ length-append x left in
+        let q : length rest - length rest % 128 ≡ length x + (length left - length left % 128) = omega arith in
+        g.last ∙ ap (λ m. drop m rest) q ∙ ap (drop (length x + (length left - length left % 128))) e ∙ drop-append-add x left (length left - length left % 128)
+
+    -- their number does not pass the text's length
+    pub counted_room : n + k ≤ length s
+    counted_room =
+        omega (arith, g.count.0, a.0, h, ap length g.joined, length-append g.front rest, length-append g.front end, ap length e, length-append x left, ap length tail, length-drop (length left - length left % 128) left)
+
+    pub counted_more : Counted s left end (n + k)
+    counted_more = record {
+      front = g.front ++ x;
+      joined = g.joined ∙ ap (g.front ++◌) e ∙ sym (append_assoc g.front x left);
+      last = tail;
+      count = (
+        omega (arith, g.count.0, a.0, length-append g.front end, length-append (g.front ++ x) end, length-append g.front x),
+        ap length (escaped_append (g.front ++ x) end ∙ ap (λ z. z ++ escaped end) (escaped_append g.front x)) ∙ omega (arith, a.1, g.count.1, ap length (escaped_append g.front end), length-append g.front end, length-append (escaped g.front) (escaped end), length-append (g.front ++ x) end, length-append g.front x, length-append (escaped g.front ++ escaped x) (escaped end), length-append (escaped g.front) (escaped x)),
+      );
+    }
+
+  pub counted_all : length rest < 128 → length (escaped s) ≡ length s + n
+  counted_all h =
+      let q : length rest - length rest % 128 ≡ 0 = omega arith in
+      let e : end ≡ rest = g.last ∙ ap (λ m. drop m rest) q in
+      ap (λ z. length (escaped z)) (g.joined ∙ ap (g.front ++◌) (sym e)) ∙ g.count.1 ∙ ap (λ z. length z + n) (ap (g.front ++◌) e ∙ sym g.joined)
 
 pub quoted_done : {l₀ l m n : Bytes} {at p q r : ℕ} (s : Bytes) → length l₀ ≤ largest
     → Written (34 ∷ []) l₀ at l p → Written (escaped s) l p m q → Written (34 ∷ []) m q n r → Written (quoted s) l₀ at n r

@@ -1,5 +1,5 @@
 -- An expression's keys held in byte order. An entry is a number behind a tag 32, from which the key and its value are read again.
-use Rattle.std.specs.Prelude.{ℕ, ◌+◌, ◌≤◌, ◌<◌, ◌≡◌, List, [], ◌∷◌, true, false, length, get_or, take, drop}
+use Rattle.std.specs.Prelude.{ℕ, ◌+◌, ◌≤◌, ◌<◌, ◌≡◌, List, [], ◌∷◌, true, false, length, get_or, take, drop, Option, Some, None}
 use Rattle.support.specs.Bytes.{Bytes, same_bytes, precedes}
 use Rattle.json_path.specs.Span.{Span, own, spans_from}
 use Rattle.expression.specs.Expression.{Param, name, Keys, no_keys, key, Part, parameter, hash, block, right_tilde, skipped}
@@ -9,7 +9,6 @@ use Rattle.expression.specs.Answers.{keys_read}
 use Rattle.expression.specs.declared.parameter.Part as declared
 use Rattle.expression.specs.declared.parameter.Part.TheVariants as Part
 use Rattle.expression.specs.declared.parameter.Parts.{Parts}
-use Rattle.listing.specs.declared.keys.Held.{Held}
 
 -- ---- entries
 
@@ -90,22 +89,22 @@ pub record PlaceIs (f : ℕ → Bytes) (k : Bytes) (es : List ℕ) (r : ℕ) : T
   pub after : (j : ℕ) → r ≤ j → j < length es → precedes (f (get_or es j 0)) k ≡ false
 
 -- the first n cells hold these entries; or there are more entries than cells
-abbrev pub CellsMean : List ℕ → List ℕ → Held → Type 0
-CellsMean es cells (Held.Keys n) = (n ≤ length cells) × (take n cells ≡ es)
-CellsMean es cells Held.TooMany = length cells < length es
+abbrev pub CellsMean : List ℕ → List ℕ → Option ℕ → Type 0
+CellsMean es cells (Some n) = (n ≤ length cells) × (take n cells ≡ es)
+CellsMean es cells None = length cells < length es
 
 -- r says how the cells hold these entries
-pub record CellsHold (es cells : List ℕ) (r : Held) : Type 0 where
+pub record CellsHold (es cells : List ℕ) (r : Option ℕ) : Type 0 where
   pub means : CellsMean es cells r
 
 -- the same after one more entry, the number behind the first span from number `from` on
-pub record EntryHeld (text : Bytes) (words : List ℕ) (from : ℕ) (es cells : List ℕ) (r : Held) : Type 0 where
+pub record EntryHeld (text : Bytes) (words : List ℕ) (from : ℕ) (es cells : List ℕ) (r : Option ℕ) : Type 0 where
   pub entry : ℕ
   pub is : EntryIs words from entry
   pub hold : CellsHold (put_entry (entry_key text words) entry es) cells r
 
 -- the same after a part that stands there: only a key gives an entry
-abbrev pub PartHeldMeans : Bytes → List ℕ → ℕ → declared.Part → List ℕ → List ℕ → Held → Type 0
+abbrev pub PartHeldMeans : Bytes → List ℕ → ℕ → declared.Part → List ℕ → List ℕ → Option ℕ → Type 0
 PartHeldMeans text words from (Part.Hash h) es cells r = EntryHeld text words from es cells r
 PartHeldMeans text words from (Part.Param p) es cells r = CellsHold es cells r
 PartHeldMeans text words from (Part.BlockParam b) es cells r = CellsHold es cells r
@@ -113,7 +112,7 @@ PartHeldMeans text words from Part.RightTilde es cells r = CellsHold es cells r
 PartHeldMeans text words from Part.Skipped es cells r = CellsHold es cells r
 
 -- r says how the cells hold the entries es and that of the part x
-pub record PartHeld (text : Bytes) (words : List ℕ) (from : ℕ) (x : declared.Part) (es cells : List ℕ) (r : Held) : Type 0 where
+pub record PartHeld (text : Bytes) (words : List ℕ) (from : ℕ) (x : declared.Part) (es cells : List ℕ) (r : Option ℕ) : Type 0 where
   pub means : PartHeldMeans text words from x es cells r
 
 -- the keys of p's parts are those of the entries in the first n cells, and each can be read
@@ -123,10 +122,10 @@ pub record KeysHeld (text : Bytes) (words : List ℕ) (p : Parts) (cells : List 
   pub read : All (EntryRead text words p.depth) (take n cells)
 
 -- what each case says: they are held, or there are more keys than cells
-abbrev pub HeldMeans : Bytes → List ℕ → Parts → List ℕ → Held → Type 0
-HeldMeans text words p cells (Held.Keys n) = KeysHeld text words p cells n
-HeldMeans text words p cells Held.TooMany = length cells < key_count (read_or no_keys (keys_read text words p))
+abbrev pub HeldMeans : Bytes → List ℕ → Parts → List ℕ → Option ℕ → Type 0
+HeldMeans text words p cells (Some n) = KeysHeld text words p cells n
+HeldMeans text words p cells None = length cells < key_count (read_or no_keys (keys_read text words p))
 
 -- r says how the cells hold the keys of p's parts
-pub record HeldIs (text : Bytes) (words : List ℕ) (p : Parts) (cells : List ℕ) (r : Held) : Type 0 where
+pub record HeldIs (text : Bytes) (words : List ℕ) (p : Parts) (cells : List ℕ) (r : Option ℕ) : Type 0 where
   pub means : HeldMeans text words p cells r

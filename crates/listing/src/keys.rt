@@ -11,13 +11,6 @@ use expression::parse::next_part;
 use json_path::span::{Next, next_span};
 use support::bytes::{part, precedes, same_bytes};
 
-// So many cells hold the keys, or there are not enough.
-#[derive(Clone, Copy)]
-pub(crate) enum Held {
-    Keys(usize),
-    TooMany,
-}
-
 // The number behind the first span from `from` on.
 fn entry_at(words: &[u32], from: usize) -> usize
     ensures { EntryIs words.now from result }
@@ -45,18 +38,7 @@ fn place_of(text: &[u8], words: &[u32], key: &[u8], held: &[usize]) -> usize
     requires { InOrder (entry_key text.now words.now) held.now }
     ensures { PlaceIs (entry_key text.now words.now) key.now held.now result }
 {
-    let mut low = 0;
-    let mut high = held.len();
-    while low < high {
-        let middle = low + (high - low) / 2;
-        let other = key_at(text, words, held[middle]);
-        if precedes(other, key) {
-            low = middle + 1;
-        } else {
-            high = middle;
-        }
-    }
-    low
+    held.partition_point(|e| precedes(key_at(text, words, *e), key))
 }
 
 // Stores an entry at a place; those from there up to `count` move on by one.
@@ -64,18 +46,12 @@ fn insert_at(held: &mut [usize], place: usize, count: usize, e: usize)
     requires { (place ≤ count) × (count < length held.old) }
     ensures { held.new ≡ paste held.old place (e ∷ drop place held.old) (count + 1 - place) }
 {
-    let mut moved = e;
-    let mut i = place;
-    while i <= count {
-        let old = held[i];
-        held[i] = moved;
-        moved = old;
-        i += 1;
-    }
+    held.copy_within(place..count, place + 1);
+    held[place] = e;
 }
 
-// One more entry among `count`.
-fn hold_key(text: &[u8], words: &[u32], e: usize, held: &mut [usize], count: usize) -> Held
+// One more entry among `count`: so many cells hold them then, or there are not enough.
+fn hold_key(text: &[u8], words: &[u32], e: usize, held: &mut [usize], count: usize) -> Option<usize>
     requires { (count ≤ length held.old) × InOrder (entry_key text.now words.now) (take count held.old) }
     ensures { CellsHold (put_entry (entry_key text.now words.now) e (take count held.old)) held.new result }
 {
@@ -85,14 +61,14 @@ fn hold_key(text: &[u8], words: &[u32], e: usize, held: &mut [usize], count: usi
         let other = key_at(text, words, held[place]);
         if same_bytes(other, key) {
             held[place] = e;
-            return Held::Keys(count);
+            return Some(count);
         }
     }
     if held.len() <= count {
-        return Held::TooMany;
+        return None;
     }
     insert_at(held, place, count, e);
-    Held::Keys(count + 1)
+    Some(count + 1)
 }
 
 // The same after a part, the first from `from` on: only a key gives an entry.
@@ -103,7 +79,7 @@ fn hold_part(
     x: Part,
     held: &mut [usize],
     count: usize,
-) -> Held
+) -> Option<usize>
     requires { (count ≤ length held.old) × InOrder (entry_key text.now words.now) (take count held.old) }
     ensures { PartHeld text.now words.now from x (take count held.old) held.new result }
 {
@@ -112,15 +88,20 @@ fn hold_part(
             let e = entry_at(words, from);
             hold_key(text, words, e, held, count)
         }
-        Part::Param(_) => Held::Keys(count),
-        Part::BlockParam(_) => Held::Keys(count),
-        Part::RightTilde => Held::Keys(count),
-        Part::Skipped => Held::Keys(count),
+        Part::Param(_) => Some(count),
+        Part::BlockParam(_) => Some(count),
+        Part::RightTilde => Some(count),
+        Part::Skipped => Some(count),
     }
 }
 
 // The keys of a link's parts, each with its last value.
-pub(crate) fn hold_keys(text: &[u8], words: &[u32], parts: Parts, held: &mut [usize]) -> Held
+pub(crate) fn hold_keys(
+    text: &[u8],
+    words: &[u32],
+    parts: Parts,
+    held: &mut [usize],
+) -> Option<usize>
     requires { Readable (parts_read false text.now words.now parts) }
     ensures { HeldIs text.now words.now parts held.new result }
 {
@@ -130,18 +111,14 @@ pub(crate) fn hold_keys(text: &[u8], words: &[u32], parts: Parts, held: &mut [us
         let p = next_part(text, words, rest, false);
         match p {
             PartRead::Part(x, after) => {
-                let h = hold_part(text, words, rest.from, x, held, count);
-                let Held::Keys(n) = h else {
-                    return Held::TooMany;
-                };
-                count = n;
+                count = hold_part(text, words, rest.from, x, held, count)?;
                 rest = after;
             }
             PartRead::End => {
-                return Held::Keys(count);
+                return Some(count);
             }
             PartRead::Failed(_) => {
-                return Held::TooMany;
+                return None;
             }
         }
     }

@@ -13,7 +13,7 @@ ghost use Rattle.listing.specs.Held.{EntryRead, All, held_keys};
 ghost use Rattle.listing.specs.Listing.{param_form, call_forms, param_forms, key_forms};
 ghost use Rattle.listing.specs.Written.{Written};
 
-use crate::keys::{Held, hold_keys};
+use crate::keys::hold_keys;
 use crate::path::write_path;
 use crate::requote::write_requoted;
 use crate::write::{put_bytes, write_part};
@@ -145,8 +145,7 @@ fn write_keys(out: &mut [u8], at: usize, text: &[u8], words: &[u32], parts: Part
     ensures { Written (write_forms (key_forms (read_or no_keys (keys_read text.now words.now parts)) nil)) out.old at out.new result }
 {
     let mut held = [0usize; 16];
-    let h = hold_keys(text, words, parts, &mut held);
-    let Held::Keys(n) = h else {
+    let Some(n) = hold_keys(text, words, parts, &mut held) else {
         return write_many_keys(out, at, text, words, parts);
     };
     write_held(out, at, text, words, parts.depth, &held[0..n])
@@ -159,8 +158,7 @@ fn write_many_keys(out: &mut [u8], at: usize, text: &[u8], words: &[u32], parts:
     ensures { Written (write_forms (key_forms (read_or no_keys (keys_read text.now words.now parts)) nil)) out.old at out.new result }
 {
     let mut held = [0usize; 1366];
-    let h = hold_keys(text, words, parts, &mut held);
-    let Held::Keys(n) = h else {
+    let Some(n) = hold_keys(text, words, parts, &mut held) else {
         return write_least_keys(out, at, text, words, parts);
     };
     write_held(out, at, text, words, parts.depth, &held[0..n])

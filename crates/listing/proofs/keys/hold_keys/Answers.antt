@@ -11,17 +11,16 @@ loop-x-init c =
     let a = c.args in
     (laws.holding_begins a.text.now a.words.now a.parts a.held.now c.requires, refl)
 
-pub hold_part-h-requires : goal.hold_part-h-requires
-hold_part-h-requires c = let g = c.loop-x.invariant.0 in (g.fits, g.order)
+pub hold_part-requires : goal.hold_part-requires
+hold_part-requires c = let g = c.loop-x.invariant.0 in (g.fits, g.order)
 
-pub shape_of-held-in_default : goal.shape_of-held-in_default
-shape_of-held-in_default c = c.hold_part-h.auto.held ∙ c.loop-x.invariant.1
+pub shape_of-held-in_err-count-in-Part : goal.shape_of-held-in_err-count-in-Part
+shape_of-held-in_err-count-in-Part c = c.hold_part.auto.held ∙ c.loop-x.invariant.1
 
-pub returns-in_default : goal.returns-in_default
-returns-in_default c =
+pub returns-in_err-count-in-Part : goal.returns-in_err-count-in-Part
+returns-in_err-count-in-Part c =
     let i = cases.part_found c.in-Part.is c.next_part-p.ensures in
-    let l = c.loop-x in
-    record { means = laws.holding_full l.invariant.0 c.in-Part.x i c.hold_part-h.auto.held (laws.part_left c.in_default.is c.hold_part-h.ensures) }
+    rw (c.from_residual.ensures) (record { means = laws.holding_full c.loop-x.invariant.0 c.in-Part.x i c.hold_part.auto.held c.in_err-count-in-Part.ensures })
 
 pub loop-x-smaller : goal.loop-x-smaller
 loop-x-smaller c = let i = cases.part_found c.in-Part.is c.next_part-p.ensures in omega arith
@@ -30,8 +29,8 @@ pub loop-x-preserved : goal.loop-x-preserved
 loop-x-preserved c =
     let i = cases.part_found c.in-Part.is c.next_part-p.ensures in
     let l = c.loop-x in (
-      laws.holding_on l.invariant.0 c.in-Part.x i (laws.part_kept c.in-Keys.is c.hold_part-h.ensures),
-      c.hold_part-h.auto.held ∙ l.invariant.1,
+      laws.holding_on l.invariant.0 c.in-Part.x i c.in_ok-count-in-Part.ensures,
+      c.hold_part.auto.held ∙ l.invariant.1,
     )
 
 pub shape_of-held-in-End : goal.shape_of-held-in-End

@@ -7,7 +7,6 @@ use Rattle.expression.proofs.Lists.{params_read_lem, keys_read_lem}
 use Rattle.expression.proofs.Cases as cases
 use Rattle.listing.proofs.Size.{param_size}
 use Rattle.listing.proofs.ParamWrites as params
-use Rattle.listing.proofs.HeldKeys as held_keys
 use Rattle.listing.proofs.HeldWrites as held_writes
 use Rattle.listing.proofs.PathWrites as paths
 use Rattle.listing.proofs.Writes as writes
@@ -101,8 +100,8 @@ write_held-shape_of-out t c = c.loop-i.invariant.same
 pub write_held-returns : goal.write_held-returns
 write_held-returns t c = held_writes.held_done c.loop-i.invariant c.loop-i-test.false
 
-pub write_keys-hold_keys-h-requires : goal.write_keys-hold_keys-h-requires
-write_keys-hold_keys-h-requires t c = c.requires
+pub write_keys-hold_keys-requires : goal.write_keys-hold_keys-requires
+write_keys-hold_keys-requires t c = c.requires
 
 pub write_keys-write_many_keys-requires : goal.write_keys-write_many_keys-requires
 write_keys-write_many_keys-requires t c = (omega (arith, c.decreases), c.requires)
@@ -115,11 +114,11 @@ write_keys-returns-in_default t c = c.write_many_keys.ensures
 
 pub write_keys-slice_bounds-write_held-end : goal.write_keys-slice_bounds-write_held-end
 write_keys-slice_bounds-write_held-end t c =
-    let k = held_keys.keys_held c.in-Keys.is c.hold_keys-h.ensures in omega (arith, c.hold_keys-h.auto.held)
+    let k = c.in-Some.ensures.means in omega (arith, c.hold_keys.auto.held)
 
 pub write_keys-write_held-requires : goal.write_keys-write_held-requires
 write_keys-write_held-requires t c =
-    let k = held_keys.keys_held c.in-Keys.is c.hold_keys-h.ensures in
+    let k = c.in-Some.ensures.means in
     (omega (arith, c.decreases, held_writes.held_size k), held_writes.all_read k)
 
 pub write_keys-shape_of-out : goal.write_keys-shape_of-out
@@ -127,7 +126,7 @@ write_keys-shape_of-out t c = writes.written_length c.write_held.ensures
 
 pub write_keys-returns : goal.write_keys-returns
 write_keys-returns t c =
-    held_writes.held_written (held_keys.keys_held c.in-Keys.is c.hold_keys-h.ensures) c.write_held.ensures
+    held_writes.held_written c.in-Some.ensures.means c.write_held.ensures
 
 pub write_least_keys-loop-h-init : goal.write_least_keys-loop-h-init
 write_least_keys-loop-h-init t c =
@@ -164,8 +163,8 @@ write_least_keys-returns-in-Failed t c =
     let l = c.loop-h in
     absurd (keys_read_lem l.invariant.reads (cases.key_failed c.in-Failed.is c.next_key-n.ensures))
 
-pub write_many_keys-hold_keys-h-requires : goal.write_many_keys-hold_keys-h-requires
-write_many_keys-hold_keys-h-requires t c = c.requires
+pub write_many_keys-hold_keys-requires : goal.write_many_keys-hold_keys-requires
+write_many_keys-hold_keys-requires t c = c.requires
 
 pub write_many_keys-write_least_keys-requires : goal.write_many_keys-write_least_keys-requires
 write_many_keys-write_least_keys-requires t c = (omega (arith, c.decreases), c.requires)
@@ -178,11 +177,11 @@ write_many_keys-returns-in_default t c = c.write_least_keys.ensures
 
 pub write_many_keys-slice_bounds-write_held-end : goal.write_many_keys-slice_bounds-write_held-end
 write_many_keys-slice_bounds-write_held-end t c =
-    let k = held_keys.keys_held c.in-Keys.is c.hold_keys-h.ensures in omega (arith, c.hold_keys-h.auto.held)
+    let k = c.in-Some.ensures.means in omega (arith, c.hold_keys.auto.held)
 
 pub write_many_keys-write_held-requires : goal.write_many_keys-write_held-requires
 write_many_keys-write_held-requires t c =
-    let k = held_keys.keys_held c.in-Keys.is c.hold_keys-h.ensures in
+    let k = c.in-Some.ensures.means in
     (omega (arith, c.decreases, held_writes.held_size k), held_writes.all_read k)
 
 pub write_many_keys-shape_of-out : goal.write_many_keys-shape_of-out
@@ -190,7 +189,7 @@ write_many_keys-shape_of-out t c = writes.written_length c.write_held.ensures
 
 pub write_many_keys-returns : goal.write_many_keys-returns
 write_many_keys-returns t c =
-    held_writes.held_written (held_keys.keys_held c.in-Keys.is c.hold_keys-h.ensures) c.write_held.ensures
+    held_writes.held_written c.in-Some.ensures.means c.write_held.ensures
 
 pub write_param-write_subexpression-requires : goal.write_param-write_subexpression-requires
 write_param-write_subexpression-requires t c =

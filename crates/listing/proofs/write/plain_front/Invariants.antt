@@ -8,4 +8,3 @@ use Rattle.listing.proofs.write.plain_front.Given as goal
 
 abbrev pub invariant-loop-i : goal.invariant-loop-i
 invariant-loop-i l = (l.i ≤ length l.block) × (l.stop ≤ 64) × ((k : ℕ) → k < l.i → k < l.stop → escape (get_or l.block k 0) ≡ get_or l.block k 0 ∷ [])
-
