@@ -7,11 +7,11 @@ use mathlib.Core.Path.{◌≡◌, sym, ap, subst, ◌∙◌}
 use mathlib.Core.List.{List, [], ◌∷◌, ◌++◌, append_assoc}
 use mathlib.Core.Bool.{true, false}
 use lib.ListN.{length, get_or, take, drop, set, length-append, length-take, length-drop, length-set}
-use lib.Seq.{take-suc, drop-cons, get_or_at, take-set-lt, get_or-take, get_or-drop, take-take, take-add, drop_at, length-take-le, paste, paste-zero, paste-suc, length-paste, length_paste_head, take-paste}
+use lib.Seq.{take-suc, take-set-lt, get_or-take, take-take, take-add, drop_at, length-take-le, paste, length-paste, take-paste}
 use Rattle.std.proofs.lemmas.List.{set_at}
 use Rattle.support.specs.Bytes.{Bytes, same_bytes}
 use Rattle.listing.specs.Held.{InOrder, put_entry, PlaceIs, CellsHold}
-use Rattle.std.specs.Prelude.{Option, Some, None}
+use Rattle.std.specs.Prelude.{Some, None}
 use Rattle.listing.proofs.Entries.{put_same, put_new}
 
 -- ---- moving on by one

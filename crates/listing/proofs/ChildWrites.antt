@@ -1,17 +1,17 @@
 -- The bytes of an expression's children, piece by piece as the writers store them: a call, and the block parameters behind it. Assumes nothing.
 use Prim.Native.Nat.{ℕ, ◌≤◌}
-use mathlib.Core.Path.{◌≡◌, refl, sym, subst, ◌∙◌}
+use mathlib.Core.Path.{◌≡◌, refl, sym, ap, subst, ◌∙◌}
 use mathlib.Core.List.{List, [], ◌∷◌, ◌++◌, append-nil, append_assoc}
 use lib.ListN.{length}
 use Rattle.support.specs.Bytes.{Bytes, ascii}
 use Rattle.expression.specs.Expression.{Call, call, Keys, no_keys, key, Expression, no_block_param, single, pair}
 use Rattle.expression.specs.Expression as Block
 use Rattle.expression.specs.Read.{Fault, failed}
-use Rattle.expression.specs.Answers.{block_means, call_means, call_or, expression_means, ExpressionIs}
+use Rattle.expression.specs.Answers.{block_param_means, block_means, call_means, call_or, expression_means, ExpressionIs}
 use Rattle.expression.specs.declared.parameter.BlockParam.{BlockParam}
 use Rattle.expression.specs.declared.parameter.Subexpression.{Subexpression}
 use Rattle.expression.specs.declared.parameter.ExpressionSpec.{ExpressionSpec}
-use Rattle.expression.specs.declared.parameter.ExpressionRead.TheVariants as ExpressionRead
+use Rattle.std.specs.Prelude.{Option, Some, None, Ok}
 use Rattle.listing.specs.Quoted.{quoted, escaped}
 use Rattle.listing.specs.Form.{Word, quote, line, write_field, write_fields, write_head, Forms, nil, write_form, write_forms}
 use Rattle.listing.specs.Listing.{param_form, call_forms, key_forms, block_param_forms}
@@ -37,10 +37,14 @@ unfolding write_form
 pair_bytes a b = append-nil (write_form (line Word.as_params (quote a ∷ quote b ∷ []))) ∙ pair_line a b
 
 -- the block parameters told by their case
-pub block_is : {l m : Bytes} {at r : ℕ} (text : Bytes) (b : BlockParam) {c : BlockParam} → b ≡ c
-    → Written (write_forms (block_param_forms (block_means text c) nil)) l at m r
-    → Written (write_forms (block_param_forms (block_means text b) nil)) l at m r
-block_is {l} {m} {at} {r} text b e w = subst (λ z. Written (write_forms (block_param_forms (block_means text z) nil)) l at m r) (sym e) w
+module _ {l m : Bytes} {at r : ℕ} (text : Bytes) {b : Option BlockParam} where
+  pub block_none : b ≡ None → Written (write_forms nil) l at m r → Written (write_forms (block_param_forms (block_means text b) nil)) l at m r
+  block_none e w = subst (λ z. Written (write_forms (block_param_forms (block_means text z) nil)) l at m r) (sym e) w
+
+  pub block_some : {x y : BlockParam} → b ≡ Some x → x ≡ y
+      → Written (write_forms (block_param_forms (block_param_means text y) nil)) l at m r
+      → Written (write_forms (block_param_forms (block_means text b) nil)) l at m r
+  block_some e f w = subst (λ z. Written (write_forms (block_param_forms (block_means text z) nil)) l at m r) (sym (e ∙ ap Some f)) w
 
 pub no_block : (l : Bytes) (at : ℕ) → at ≤ largest → Written (write_forms nil) l at l at
 unfolding write_form
@@ -78,7 +82,7 @@ module _ (text : Bytes) (words : List ℕ) (s : Subexpression) {l m : Bytes} {at
   unfolding helper_children param_form write_form write_head write_fields write_field quoted escaped
   helper_empty e w = subst (λ o. Written (write_forms (call_forms (call_or o) (block_param_forms (block_or o) nil))) l at m r) (sym e) w
 
-  module _ {x : ExpressionSpec} {low : ℕ} (i : ExpressionIs text words (expression_at text words s) low (ExpressionRead.Done x)) where
+  module _ {x : ExpressionSpec} {low : ℕ} (i : ExpressionIs text words (expression_at text words s) low (Ok x)) where
     pub decorator_written : Written (write_forms (call_forms (call_means text words x.name x.parts) nil)) l at m r
         → Written (write_forms (decorator_children text words s)) l at m r
     unfolding decorator_children expression_means

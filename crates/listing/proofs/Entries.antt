@@ -1,6 +1,6 @@
 -- Entries in byte order: putting one in keeps the order, gives the specification's keys, and happens at the place that a search finds.
 -- By induction on the entries. Assumes nothing.
-use Prim.Native.Nat.{ℕ, zero, suc, ◌+◌, ◌≤◌, ◌<◌}
+use Prim.Native.Nat.{ℕ, zero, suc, ◌≤◌, ◌<◌}
 use native.Mathlib.Omega.{arith}
 use mathlib.Core.Path.{◌≡◌, refl, sym, ap, subst, ◌∙◌}
 use mathlib.Core.List.{List, [], ◌∷◌, ◌++◌}
@@ -14,7 +14,7 @@ use Rattle.support.specs.Bytes.{Bytes, same_bytes, precedes}
 use Rattle.support.proofs.ByteLaws.{same_true}
 use Rattle.expression.specs.Expression.{Param, Keys, no_keys, key, insert_key}
 use Rattle.expression.specs.Again.{is_above}
-use Rattle.expression.proofs.Order.{transitive, comes_after, never}
+use Rattle.expression.proofs.Order.{transitive, comes_after}
 use Rattle.listing.specs.Held.{All, Before, InOrder, keys_by, put_entry, key_count, PlaceIs}
 use Rattle.listing.proofs.KeyInserts.{insert_before, insert_twice, insert_swap, count_above, count_insert}
 

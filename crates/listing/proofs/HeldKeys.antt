@@ -23,7 +23,7 @@ use Rattle.expression.specs.declared.parameter.Parameter.{Parameter}
 use Rattle.expression.specs.declared.parameter.BlockParam.{BlockParam}
 use Rattle.expression.proofs.Equations.{parts_end, parts_stop, parts_next}
 use Rattle.expression.proofs.Lists.{one, tail, along}
-use Rattle.listing.specs.Held.{first_text, value_of, entry_key, entry_value, EntryRead, EntryIs, All, InOrder, put_entry, key_count, CellsHold, EntryHeld, PartHeld, KeysHeld, HeldIs}
+use Rattle.listing.specs.Held.{first_text, value_of, entry_key, entry_value, EntryRead, EntryIs, All, InOrder, put_entry, key_count, CellsHold, EntryHeld, PartHeld, KeysHeld}
 use Rattle.std.specs.Prelude.{Option, Some, None}
 use Rattle.listing.proofs.Entries.{all_put, order_put, onto, onto_put, onto_none, at_least}
 

@@ -16,8 +16,8 @@ use Rattle.expression.specs.Answers.{param_means, keys_read, HashIs}
 use Rattle.expression.specs.declared.parameter.Parts.{Parts}
 use Rattle.expression.specs.declared.parameter.Hash.{Hash}
 use Rattle.expression.specs.declared.parameter.Fault.{Fault}
-use Rattle.expression.specs.declared.parameter.HashRead.{HashRead}
-use Rattle.expression.specs.declared.again.Bound.TheVariants as Bound
+use Rattle.std.specs.Prelude.{Result, None, Ok, Err}
+use Rattle.expression.specs.declared.parameter.Fault.{Fault}
 use Rattle.expression.proofs.Lists.{not_failed, keys_all_lem}
 use Rattle.listing.specs.Form.{nil, write_form, write_forms}
 use Rattle.listing.specs.Listing.{param_form, key_forms}
@@ -45,14 +45,14 @@ pub held_begins : (text : Bytes) (words : List ℕ) (d : ℕ) (es : List ℕ) (l
 held_begins text words d es l at h = record { fits = omega arith; whole = λ k r w. w; same = refl; position = h }
 
 -- an entry that can be read is read
-pub entry_read : (text : Bytes) (words : List ℕ) (d : ℕ) (es : List ℕ) (i : ℕ) {r : HashRead} {f : Fault} → All (EntryRead text words d) es → i < length es
-    → r ≡ HashRead.Failed f → HashIs false text words d (get_or es i 0) r → ⊥
+pub entry_read : (text : Bytes) (words : List ℕ) (d : ℕ) (es : List ℕ) (i : ℕ) {r : Result (Hash × ℕ) Fault} {f : Fault} → All (EntryRead text words d) es → i < length es
+    → r ≡ Err f → HashIs false text words d (get_or es i 0) r → ⊥
 entry_read text words d es i a l e h =
     let o = all_at (EntryRead text words d) es i a l in
     not_failed (record { rest = o.rest; reads = o.reads }) (subst (λ z. HashIs false text words d (get_or es i 0) z) e h).reads
 
 module _ {text : Bytes} {words : List ℕ} {d : ℕ} {es : List ℕ} {l m : Bytes} {at i q : ℕ} (g : HeldLeft text words d es l at i m q) where
-  module _ {h : Hash} {n : ℕ} {r : HashRead} (b : i < length es) (e : r ≡ HashRead.Done h n) (u : HashIs false text words d (get_or es i 0) r) where
+  module _ {h : Hash} {n : ℕ} {r : Result (Hash × ℕ) Fault} (b : i < length es) (e : r ≡ Ok (h, n)) (u : HashIs false text words d (get_or es i 0) r) where
     next : held_keys text words d (drop i es) ≡ key (name_means text h.key) (param_means text words h.value) (held_keys text words d (drop (i + 1) es))
     unfolding keys_by
     next =
@@ -91,7 +91,7 @@ module _ {text : Bytes} {words : List ℕ} {p : Parts} {cells : List ℕ} {n : �
   same : read_or no_keys (keys_read text words p) ≡ held_keys text words p.depth (take (n - 0) cells)
   same = ap (read_or no_keys) h.keys.reads ∙ ap (λ k. held_keys text words p.depth (take k cells)) (from_zero n)
 
-  pub held_size : keys_size (held_keys text words p.depth (take (n - 0) cells)) ≡ keys_all text words p Bound.None
+  pub held_size : keys_size (held_keys text words p.depth (take (n - 0) cells)) ≡ keys_all text words p None
   held_size =
       ap (λ k. keys_size (held_keys text words p.depth (take k cells))) (sym (from_zero n))
       ∙ sym (ap (λ o. keys_size (read_or no_keys o)) (keys_all_lem text words p h.keys).reads)

@@ -21,9 +21,8 @@ use Rattle.expression.specs.declared.parameter.ExpressionSpec.{ExpressionSpec}
 use Rattle.expression.specs.declared.parameter.Parts.{Parts}
 use Rattle.expression.specs.declared.parameter.Literal.{Literal}
 use Rattle.expression.specs.declared.parameter.Hash.{Hash}
-use Rattle.expression.specs.declared.again.ParamStep.TheVariants as ParamStep
-use Rattle.expression.specs.declared.again.Bound.{Bound}
-use Rattle.expression.specs.declared.again.KeyStep.TheVariants as KeyStep
+use Rattle.std.specs.Prelude.{Option, Some, None, Ok}
+use Rattle.json_path.specs.declared.path.Name as declared
 use Rattle.listing.specs.Quoted.{quoted, escaped}
 use Rattle.listing.specs.Form.{Word, write_field, write_head, write_fields, Forms, nil, write_form, write_forms}
 use Rattle.listing.specs.Listing.{param_form, call_forms, param_forms, key_forms}
@@ -114,12 +113,12 @@ sub_empty text words s {l = l} {m = m} {at = at} {r = r} e w = subst (λ o. Writ
 abbrev pub params_all : Bytes → List ℕ → Parts → ℕ
 params_all text words p = params_size (read_or no_params (params_read text words p))
 
-abbrev pub keys_all : Bytes → List ℕ → Parts → Bound → ℕ
+abbrev pub keys_all : Bytes → List ℕ → Parts → Option declared.Name → ℕ
 keys_all text words p b = keys_size (read_or no_keys (keys_left text words p b))
 
 -- a call is as large as what it holds
 pub call_size_lem : (text : Bytes) (words : List ℕ) (n : Parameter) (p : Parts) → Readable (parts_read false text words p)
-    → call_size (call_means text words n p) ≡ param_size (param_means text words n) + params_all text words p + keys_all text words p Bound.None
+    → call_size (call_means text words n p) ≡ param_size (param_means text words n) + params_all text words p + keys_all text words p None
 call_size_lem text words n p h =
     let a = ap call_size (call_known text words p h n) in
     let b = ap (λ o. params_size (read_or no_params o)) (params_known text words p h).reads in
@@ -157,7 +156,7 @@ params_begin text words p l at g h =
     }
 
 module _ {text : Bytes} {words : List ℕ} {p rest : Parts} {l m : Bytes} {at q : ℕ} (g : ParamsLeft text words p l at rest m q) where
-  module _ {v : Parameter} {after : Parts} (i : ParamStepIs text words rest (ParamStep.Param v after)) where
+  module _ {v : Parameter} {after : Parts} (i : ParamStepIs text words rest (Ok (Some (v, after)))) where
     pub params_less : param_size (param_means text words v) < params_all text words p
     params_less = let t = params_next g.reads i in let f = ap params_size t.same in omega (arith, g.fits)
 
@@ -176,24 +175,24 @@ module _ {text : Bytes} {words : List ℕ} {p rest : Parts} {l m : Bytes} {at q 
           position = omega (arith, w.next);
         }
 
-  pub params_done : ParamStepIs text words rest ParamStep.End
+  pub params_done : ParamStepIs text words rest (Ok None)
       → Written (write_forms (param_forms (read_or no_params (params_read text words p)) nil)) l at m q
   unfolding param_form write_form
   params_done i = g.whole m q (subst (λ z. Written (write_forms (param_forms z nil)) m q m q) (sym (params_end g.reads i)) (written_none m q g.position))
 
 -- ---- keys
 
-pub record KeysLeft (text : Bytes) (words : List ℕ) (p : Parts) (l : Bytes) (at : ℕ) (b : Bound) (m : Bytes) (q : ℕ) : Type 0 where
+pub record KeysLeft (text : Bytes) (words : List ℕ) (p : Parts) (l : Bytes) (at : ℕ) (b : Option declared.Name) (m : Bytes) (q : ℕ) : Type 0 where
   pub keys : Keys
   pub reads : Reads (keys_left text words p b) keys
-  pub fits : keys_size keys ≤ keys_all text words p Bound.None
+  pub fits : keys_size keys ≤ keys_all text words p None
   pub whole : (k : Bytes) (r : ℕ) → Written (write_forms (key_forms keys nil)) m q k r
       → Written (write_forms (key_forms (read_or no_keys (keys_read text words p)) nil)) l at k r
   pub same : length m ≡ length l
   pub position : q ≤ largest
 
 pub keys_begin : (text : Bytes) (words : List ℕ) (p : Parts) (l : Bytes) (at : ℕ) → at ≤ largest → Readable (parts_read false text words p)
-    → KeysLeft text words p l at Bound.None l at
+    → KeysLeft text words p l at None l at
 keys_begin text words p l at g h =
     let k = keys_known text words p h in
     let e : read_or no_keys (keys_read text words p) ≡ keys_of h.value = ap (λ o. read_or no_keys (mapped keys_of o)) h.reads in
@@ -207,12 +206,12 @@ keys_begin text words p l at g h =
       position = g;
     }
 
-module _ {text : Bytes} {words : List ℕ} {p : Parts} {b : Bound} {l m : Bytes} {at q : ℕ} (g : KeysLeft text words p l at b m q) where
-  module _ {h : Hash} (i : KeyStepIs text words p b (KeyStep.Key h)) where
-    pub keys_less : param_size (param_means text words h.value) < keys_all text words p Bound.None
+module _ {text : Bytes} {words : List ℕ} {p : Parts} {b : Option declared.Name} {l m : Bytes} {at q : ℕ} (g : KeysLeft text words p l at b m q) where
+  module _ {h : Hash} (i : KeyStepIs text words p b (Ok (Some h))) where
+    pub keys_less : param_size (param_means text words h.value) < keys_all text words p None
     keys_less = let t = keys_next g.reads i in let f = ap keys_size t.same in omega (arith, g.fits)
 
-    pub keys_fall : keys_all text words p (Bound.Above h.key) < keys_all text words p b
+    pub keys_fall : keys_all text words p (Some h.key) < keys_all text words p b
     keys_fall =
         let t = keys_next g.reads i in
         let f = ap keys_size t.same in
@@ -222,7 +221,7 @@ module _ {text : Bytes} {words : List ℕ} {p : Parts} {b : Bound} {l m : Bytes}
 
     pub keys_on : {n : Bytes} {s : ℕ} → length l ≤ largest
         → Written (write_forms (key_forms (key (name_means text h.key) (param_means text words h.value) no_keys) nil)) m q n s
-        → KeysLeft text words p l at (Bound.Above h.key) n s
+        → KeysLeft text words p l at (Some h.key) n s
     keys_on z w =
         let y = keys_next g.reads i in
         let f = ap keys_size y.same in
@@ -235,6 +234,6 @@ module _ {text : Bytes} {words : List ℕ} {p : Parts} {b : Bound} {l m : Bytes}
           position = omega (arith, w.next);
         }
 
-  pub keys_done : KeyStepIs text words p b KeyStep.End → Written (write_forms (key_forms (read_or no_keys (keys_read text words p)) nil)) l at m q
+  pub keys_done : KeyStepIs text words p b (Ok None) → Written (write_forms (key_forms (read_or no_keys (keys_read text words p)) nil)) l at m q
   unfolding param_form write_form
   keys_done i = g.whole m q (subst (λ z. Written (write_forms (key_forms z nil)) m q m q) (sym (keys_end g.reads i)) (written_none m q g.position))

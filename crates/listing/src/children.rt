@@ -35,10 +35,12 @@ fn write_pair(out: &mut [u8], at: usize, text: &[u8], a: Name, b: Name) -> usize
 pub fn write_block_param(out: &mut [u8], at: usize, text: &[u8], block: Option<BlockParam>) -> usize
     ensures { Written (write_forms (block_param_forms (block_means text.now block) nil)) out.old at out.new result }
 {
-    match block {
-        None => at,
-        Some(BlockParam::Single(a)) => write_single(out, at, text, a),
-        Some(BlockParam::Pair(a, b)) => write_pair(out, at, text, a, b),
+    let Some(names) = block else {
+        return at;
+    };
+    match names {
+        BlockParam::Single(a) => write_single(out, at, text, a),
+        BlockParam::Pair(a, b) => write_pair(out, at, text, a, b),
     }
 }
 

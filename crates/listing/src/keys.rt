@@ -99,7 +99,7 @@ pub(crate) fn hold_keys(
 {
     let mut rest = parts;
     let mut count = 0;
-    while let Some((x, after)) = next_part(text, words, rest, false).ok()? {
+    while let Ok(Some((x, after))) = next_part(text, words, rest, false) {
         count = hold_part(text, words, rest.from, x, held, count)?;
         rest = after;
     }

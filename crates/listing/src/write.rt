@@ -1,5 +1,5 @@
 // One byte, a quoted text, a decimal number.
-ghost use Rattle.std.specs.Prelude.{◌≡◌, [], ◌∷◌, ◌+◌, ◌≤◌, ◌<◌, length, take};
+ghost use Rattle.std.specs.Prelude.{◌≡◌, [], ◌∷◌, ◌+◌, ◌≤◌, ◌<◌, length, take, MatchBool};
 ghost use Rattle.support.specs.Bytes.{part};
 ghost use Rattle.listing.specs.Quoted.{quoted, decimal, escape, escaped};
 ghost use Rattle.listing.specs.Written.{Written};
@@ -21,10 +21,22 @@ pub fn put_bytes(out: &mut [u8], at: usize, bytes: &[u8]) -> usize
     ensures { Written bytes.now out.old at out.new result }
 {
     if at < out.len() {
-        let n = bytes.len().min(out.len() - at);
-        out[at..at + n].copy_from_slice(&bytes[..n]);
+        let room = out.len() - at;
+        if bytes.len() <= room {
+            out[at..at + bytes.len()].copy_from_slice(bytes);
+        } else {
+            out[at..].copy_from_slice(&bytes[..room]);
+        }
     }
     at.saturating_add(bytes.len())
+}
+
+// A backslash and what stands behind it.
+fn put_escape(out: &mut [u8], at: usize, letter: u8) -> usize
+    ensures { Written (0x5C ∷ letter ∷ []) out.old at out.new result }
+{
+    let p = put(out, at, b'\\');
+    put(out, p, letter)
 }
 
 // One byte of a quoted text: `\`, `"` and LF have an escape.
@@ -32,10 +44,21 @@ pub(crate) fn put_escaped(out: &mut [u8], at: usize, b: u8) -> usize
     ensures { Written (escape b) out.old at out.new result }
 {
     match b {
-        b'\\' => put_bytes(out, at, b"\\\\"),
-        b'"' => put_bytes(out, at, b"\\\""),
-        b'\n' => put_bytes(out, at, b"\\n"),
+        b'\\' => put_escape(out, at, b'\\'),
+        b'"' => put_escape(out, at, b'"'),
+        b'\n' => put_escape(out, at, b'n'),
         _ => put(out, at, b),
+    }
+}
+
+fn has_escape(b: u8) -> bool
+    ensures { MatchBool result (length (escape b) ≡ 2) (escape b ≡ b ∷ []) }
+{
+    match b {
+        b'\\' => true,
+        b'"' => true,
+        b'\n' => true,
+        _ => false,
     }
 }
 
@@ -43,12 +66,7 @@ pub(crate) fn put_escaped(out: &mut [u8], at: usize, b: u8) -> usize
 fn more(b: u8) -> u8
     ensures { (result ≤ 1) × (length (escape b) ≡ 1 + result) }
 {
-    match b {
-        b'\\' => 1,
-        b'"' => 1,
-        b'\n' => 1,
-        _ => 0,
-    }
+    if has_escape(b) { 1 } else { 0 }
 }
 
 // How many bytes of a block have an escape, counted in a byte, so that one instruction does many bytes.
@@ -68,8 +86,9 @@ fn escapes_in(block: &[u8]) -> usize
 fn escapes(text: &[u8]) -> usize
     ensures { length (escaped text.now) ≡ length text.now + result }
 {
-    let mut n: usize = 0;
-    for block in text.chunks(128) {
+    let blocks = text.chunks_exact(128);
+    let mut n = escapes_in(blocks.remainder());
+    for block in blocks {
         n += escapes_in(block);
     }
     n
@@ -90,12 +109,7 @@ fn write_each(out: &mut [u8], at: usize, text: &[u8]) -> usize
 fn stop_at(b: u8, i: u8) -> u8
     ensures { i < result → escape b ≡ b ∷ [] }
 {
-    match b {
-        b'\\' => i,
-        b'"' => i,
-        b'\n' => i,
-        _ => 64,
-    }
+    if has_escape(b) { i } else { 64 }
 }
 
 // How many bytes at the front of a block have no escape. The least place of one that has is looked
@@ -122,10 +136,10 @@ fn write_runs(out: &mut [u8], at: usize, block: &[u8]) -> usize
     loop {
         let (plain, marked) = rest.split_at(plain_front(rest));
         p = put_bytes(out, p, plain);
-        let [b, after @ ..] = marked else {
+        let [stop, after @ ..] = marked else {
             return p;
         };
-        p = put_escaped(out, p, *b);
+        p = put_escaped(out, p, *stop);
         rest = after;
     }
 }

@@ -4,10 +4,10 @@ use Rattle.listing.proofs.ChildWrites as children
 use Rattle.listing.proofs.Writes as writes
 use Rattle.listing.proofs.children.write_block_param.Goals as goal
 
-pub returns-in-None : goal.returns-in-None
-returns-in-None c =
+pub returns-in_default : goal.returns-in_default
+returns-in_default c =
     let args = c.args in
-    children.block_is args.text.now args.block c.in-None.is (children.no_block _ _ (omega arith))
+    children.block_none args.text.now c.in_default.is (children.no_block _ _ (omega arith))
 
 pub shape_of-out-in-Single : goal.shape_of-out-in-Single
 shape_of-out-in-Single c = writes.written_length c.write_single.ensures
@@ -15,7 +15,7 @@ shape_of-out-in-Single c = writes.written_length c.write_single.ensures
 pub returns-in-Single : goal.returns-in-Single
 returns-in-Single c =
     let args = c.args in
-    children.block_is args.text.now args.block c.in-Single.is c.write_single.ensures
+    children.block_some args.text.now c.in-Some.is c.in-Single.is c.write_single.ensures
 
 pub shape_of-out-in-Pair : goal.shape_of-out-in-Pair
 shape_of-out-in-Pair c = writes.written_length c.write_pair.ensures
@@ -23,4 +23,4 @@ shape_of-out-in-Pair c = writes.written_length c.write_pair.ensures
 pub returns-in-Pair : goal.returns-in-Pair
 returns-in-Pair c =
     let args = c.args in
-    children.block_is args.text.now args.block c.in-Pair.is c.write_pair.ensures
+    children.block_some args.text.now c.in-Some.is c.in-Pair.is c.write_pair.ensures

@@ -10,13 +10,11 @@ shape_of-out-in_default c = writes.written_length c.put_bytes.ensures
 pub returns-in_default : goal.returns-in_default
 returns-in_default c =
     let args = c.args in
-    let parse_expression = c.parse_expression-r in
-    children.decorator_empty args.text.now args.words.now args.link (cases.expression_failed c.in_default.is parse_expression.ensures) c.put_bytes.ensures
+    children.decorator_empty args.text.now args.words.now args.link (cases.expression_failed c.in_default.is c.parse_expression.ensures) c.put_bytes.ensures
 
 pub write_call-requires : goal.write_call-requires
 write_call-requires c =
-    let parse_expression = c.parse_expression-r in
-    (cases.expression_done c.in-Done.is parse_expression.ensures).linked.parts
+    (cases.expression_done c.in-Ok.is c.parse_expression.ensures).linked.parts
 
 pub shape_of-out : goal.shape_of-out
 shape_of-out c = writes.written_length c.write_call.ensures
@@ -24,5 +22,4 @@ shape_of-out c = writes.written_length c.write_call.ensures
 pub returns : goal.returns
 returns c =
     let args = c.args in
-    let parse_expression = c.parse_expression-r in
-    children.decorator_written args.text.now args.words.now args.link (cases.expression_done c.in-Done.is parse_expression.ensures) c.write_call.ensures
+    children.decorator_written args.text.now args.words.now args.link (cases.expression_done c.in-Ok.is c.parse_expression.ensures) c.write_call.ensures

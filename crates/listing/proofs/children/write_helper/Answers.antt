@@ -12,13 +12,11 @@ shape_of-out-in_default c = writes.written_length c.put_bytes.ensures
 pub returns-in_default : goal.returns-in_default
 returns-in_default c =
     let args = c.args in
-    let parse_expression = c.parse_expression-r in
-    children.helper_empty args.text.now args.words.now args.link (cases.expression_failed c.in_default.is parse_expression.ensures) c.put_bytes.ensures
+    children.helper_empty args.text.now args.words.now args.link (cases.expression_failed c.in_default.is c.parse_expression.ensures) c.put_bytes.ensures
 
 pub write_call-p-requires : goal.write_call-p-requires
 write_call-p-requires c =
-    let parse_expression = c.parse_expression-r in
-    (cases.expression_done c.in-Done.is parse_expression.ensures).linked.parts
+    (cases.expression_done c.in-Ok.is c.parse_expression.ensures).linked.parts
 
 pub shape_of-out : goal.shape_of-out
 shape_of-out c =
@@ -28,7 +26,6 @@ shape_of-out c =
 pub returns : goal.returns
 returns c =
     let args = c.args in
-    let parse_expression = c.parse_expression-r in
     let good = c.well_formed in
     let write_call = c.write_call-p in
-    children.helper_written args.text.now args.words.now args.link (cases.expression_done c.in-Done.is parse_expression.ensures) (omega (arith, good.0.0)) write_call.ensures c.write_block_param.ensures
+    children.helper_written args.text.now args.words.now args.link (cases.expression_done c.in-Ok.is c.parse_expression.ensures) (omega (arith, good.0.0)) write_call.ensures c.write_block_param.ensures

@@ -1,8 +1,8 @@
 -- The loop holds the keys of the parts that it has passed. Assumes nothing.
 use native.Mathlib.Omega.{arith}
 use mathlib.Core.Path.{refl, ◌∙◌}
+use Rattle.std.proofs.Common.{rules}
 use Rattle.expression.proofs.Cases as cases
-use Rattle.expression.proofs.Lists.{not_failed}
 use Rattle.listing.proofs.HeldKeys as laws
 use Rattle.listing.proofs.keys.hold_keys.Goals as goal
 
@@ -14,34 +14,24 @@ loop-x-init c =
 pub hold_part-requires : goal.hold_part-requires
 hold_part-requires c = let g = c.loop-x.invariant.0 in (g.fits, g.order)
 
-pub shape_of-held-in_err-count-in-Part : goal.shape_of-held-in_err-count-in-Part
-shape_of-held-in_err-count-in-Part c = c.hold_part.auto.held ∙ c.loop-x.invariant.1
+pub shape_of-held-in_err-count : goal.shape_of-held-in_err-count
+shape_of-held-in_err-count c = c.hold_part.auto.held ∙ c.loop-x.invariant.1
 
-pub returns-in_err-count-in-Part : goal.returns-in_err-count-in-Part
-returns-in_err-count-in-Part c =
-    let i = cases.part_found c.in-Part.is c.next_part-p.ensures in
-    rw (c.from_residual.ensures) (record { means = laws.holding_full c.loop-x.invariant.0 c.in-Part.x i c.hold_part.auto.held c.in_err-count-in-Part.ensures })
+pub returns-in_err-count : goal.returns-in_err-count
+returns-in_err-count c =
+    let i = (rw c.in-Ok-Some.field-0-is at c.in-Ok-Some.ensures).means in
+    rw c.from_residual.ensures (record { means = laws.holding_full c.loop-x.invariant.0 c.in-Ok-Some.x i c.hold_part.auto.held c.in_err-count.ensures })
 
 pub loop-x-smaller : goal.loop-x-smaller
-loop-x-smaller c = let i = cases.part_found c.in-Part.is c.next_part-p.ensures in omega arith
+loop-x-smaller c = let i = (rw c.in-Ok-Some.field-0-is at c.in-Ok-Some.ensures).means in omega arith
 
 pub loop-x-preserved : goal.loop-x-preserved
 loop-x-preserved c =
-    let i = cases.part_found c.in-Part.is c.next_part-p.ensures in
+    let i = (rw c.in-Ok-Some.field-0-is at c.in-Ok-Some.ensures).means in
     let l = c.loop-x in (
-      laws.holding_on l.invariant.0 c.in-Part.x i c.in_ok-count-in-Part.ensures,
+      laws.holding_on l.invariant.0 c.in-Ok-Some.x i c.in_ok-count.ensures,
       c.hold_part.auto.held ∙ l.invariant.1,
     )
 
-pub shape_of-held-in-End : goal.shape_of-held-in-End
-shape_of-held-in-End c = c.loop-x.invariant.1
-
-pub returns-in-End : goal.returns-in-End
-returns-in-End c = record { means = laws.holding_ends c.loop-x.invariant.0 (cases.part_none c.in-End.is c.next_part-p.ensures) }
-
-pub shape_of-held-in-Failed : goal.shape_of-held-in-Failed
-shape_of-held-in-Failed c = c.loop-x.invariant.1
-
-pub returns-in-Failed : goal.returns-in-Failed
-returns-in-Failed c =
-    absurd (not_failed c.loop-x.invariant.0.reads (cases.part_failed c.in-Failed.is c.next_part-p.ensures))
+pub returns-in_default : goal.returns-in_default
+returns-in_default c = record { means = laws.holding_ends c.loop-x.invariant.0 (cases.part_none (search rules) c.next_part.ensures) }

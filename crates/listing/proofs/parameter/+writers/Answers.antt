@@ -1,13 +1,12 @@
 -- The writers of parameters, keys and calls meet their contracts: what is written falls in size from call to call, and the loops write what is left. Assumes nothing.
 use native.Mathlib.Omega.{arith}
+use Rattle.std.proofs.Common.{rules}
 use mathlib.Core.Path.{ap, ◌∙◌}
 use Rattle.listing.specs.Listing.{param_form}
 use Rattle.expression.specs.Answers.{param_means}
-use Rattle.expression.proofs.Lists.{params_read_lem, keys_read_lem}
 use Rattle.expression.proofs.Cases as cases
 use Rattle.listing.proofs.Size.{param_size}
 use Rattle.listing.proofs.ParamWrites as params
-use Rattle.listing.proofs.HeldKeys as held_keys
 use Rattle.listing.proofs.HeldWrites as held_writes
 use Rattle.listing.proofs.PathWrites as paths
 use Rattle.listing.proofs.Writes as writes
@@ -76,12 +75,12 @@ pub write_held-returns-in_default : goal.write_held-returns-in_default
 write_held-returns-in_default t c =
     let a = c.args in
     let l = c.loop-i in
-    absurd (held_writes.entry_read a.text.now a.words.now a.depth a.held.now l.i c.requires c.loop-i-test.true c.in_default.is c.parse_hash-r.ensures)
+    absurd (held_writes.entry_read a.text.now a.words.now a.depth a.held.now l.i c.requires c.loop-i-test.true c.in_default.is c.parse_hash.ensures)
 
 pub write_held-write_hash-p-requires : goal.write_held-write_hash-p-requires
 write_held-write_hash-p-requires t c =
     let l = c.loop-i in
-    let s = held_writes.held_less l.invariant c.loop-i-test.true c.in-Done.is c.parse_hash-r.ensures in
+    let s = held_writes.held_less l.invariant c.loop-i-test.true c.in-Ok.is c.parse_hash.ensures in
     (omega (arith, c.decreases), tt)
 
 pub write_held-overflow_add-i : goal.write_held-overflow_add-i
@@ -93,7 +92,7 @@ write_held-loop-i-smaller t c = omega (arith, c.loop-i-test.true)
 pub write_held-loop-i-preserved : goal.write_held-loop-i-preserved
 write_held-loop-i-preserved t c =
     let l = c.loop-i in
-    held_writes.held_on l.invariant c.loop-i-test.true c.in-Done.is c.parse_hash-r.ensures (omega (arith, c.well_formed.0.0)) c.write_hash-p.ensures
+    held_writes.held_on l.invariant c.loop-i-test.true c.in-Ok.is c.parse_hash.ensures (omega (arith, c.well_formed.0.0)) c.write_hash-p.ensures
 
 pub write_held-shape_of-out : goal.write_held-shape_of-out
 write_held-shape_of-out t c = c.loop-i.invariant.same
@@ -136,33 +135,20 @@ write_least_keys-loop-h-init t c =
 
 pub write_least_keys-write_hash-p-requires : goal.write_least_keys-write_hash-p-requires
 write_least_keys-write_hash-p-requires t c =
-    let i = cases.key_found c.in-Key.is c.next_key-n.ensures in
+    let i = (rw c.in-Ok-Some.field-0-is at c.in-Ok-Some.ensures) in
     let l = params.keys_less c.loop-h.invariant i in
     (omega (arith, c.decreases), tt)
 
 pub write_least_keys-loop-h-smaller : goal.write_least_keys-loop-h-smaller
 write_least_keys-loop-h-smaller t c =
-    params.keys_fall c.loop-h.invariant (cases.key_found c.in-Key.is c.next_key-n.ensures)
+    params.keys_fall c.loop-h.invariant (rw c.in-Ok-Some.field-0-is at c.in-Ok-Some.ensures)
 
 pub write_least_keys-loop-h-preserved : goal.write_least_keys-loop-h-preserved
 write_least_keys-loop-h-preserved t c =
-    params.keys_on c.loop-h.invariant (cases.key_found c.in-Key.is c.next_key-n.ensures) (omega (arith, c.well_formed.0.0)) c.write_hash-p.ensures
+    params.keys_on c.loop-h.invariant (rw c.in-Ok-Some.field-0-is at c.in-Ok-Some.ensures) (omega (arith, c.well_formed.0.0)) c.write_hash-p.ensures
 
-pub write_least_keys-shape_of-out-in-End : goal.write_least_keys-shape_of-out-in-End
-write_least_keys-shape_of-out-in-End t c = c.loop-h.invariant.same
-
-pub write_least_keys-returns-in-End : goal.write_least_keys-returns-in-End
-write_least_keys-returns-in-End t c =
-    let l = c.loop-h in
-    params.keys_done l.invariant (cases.key_none c.in-End.is c.next_key-n.ensures)
-
-pub write_least_keys-shape_of-out-in-Failed : goal.write_least_keys-shape_of-out-in-Failed
-write_least_keys-shape_of-out-in-Failed t c = c.loop-h.invariant.same
-
-pub write_least_keys-returns-in-Failed : goal.write_least_keys-returns-in-Failed
-write_least_keys-returns-in-Failed t c =
-    let l = c.loop-h in
-    absurd (keys_read_lem l.invariant.reads (cases.key_failed c.in-Failed.is c.next_key-n.ensures))
+pub write_least_keys-returns-in_default : goal.write_least_keys-returns-in_default
+write_least_keys-returns-in_default t c = params.keys_done c.loop-h.invariant (search rules)
 
 pub write_many_keys-hold_keys-requires : goal.write_many_keys-hold_keys-requires
 write_many_keys-hold_keys-requires t c = c.requires
@@ -240,53 +226,35 @@ write_params-loop-v-init t c =
 
 pub write_params-write_param-p-requires : goal.write_params-write_param-p-requires
 write_params-write_param-p-requires t c =
-    let next_param = c.next_param-n in
     let l = c.loop-v in
-    let i = (cases.step_found c.in-Param.is next_param.ensures) in let l = params.params_less l.invariant i in
+    let i = (rw c.in-Ok-Some.field-0-is at c.in-Ok-Some.ensures) in let l = params.params_less l.invariant i in
     (omega (arith, c.decreases), tt)
 
 pub write_params-loop-v-smaller : goal.write_params-loop-v-smaller
 write_params-loop-v-smaller t c =
-    let next_param = c.next_param-n in
-    let i = (cases.step_found c.in-Param.is next_param.ensures).means in omega arith
+    let i = (rw c.in-Ok-Some.field-0-is at c.in-Ok-Some.ensures).means in omega arith
 
 pub write_params-loop-v-preserved : goal.write_params-loop-v-preserved
 write_params-loop-v-preserved t c =
     let l = c.loop-v in
-    let next_param = c.next_param-n in
     let good = c.well_formed in
-    params.params_on l.invariant (cases.step_found c.in-Param.is next_param.ensures) (omega (arith, good.0.0))
+    params.params_on l.invariant (rw c.in-Ok-Some.field-0-is at c.in-Ok-Some.ensures) (omega (arith, good.0.0))
     c.write_param-p.ensures
 
-pub write_params-shape_of-out-in-End : goal.write_params-shape_of-out-in-End
-write_params-shape_of-out-in-End t c = c.loop-v.invariant.same
-
-pub write_params-returns-in-End : goal.write_params-returns-in-End
-write_params-returns-in-End t c =
-    let l = c.loop-v in
-    params.params_done l.invariant (cases.step_none c.in-End.is c.next_param-n.ensures)
-
-pub write_params-shape_of-out-in-Failed : goal.write_params-shape_of-out-in-Failed
-write_params-shape_of-out-in-Failed t c = c.loop-v.invariant.same
-
-pub write_params-returns-in-Failed : goal.write_params-returns-in-Failed
-write_params-returns-in-Failed t c =
-    let l = c.loop-v in
-    absurd (params_read_lem l.invariant.reads (cases.step_failed c.in-Failed.is c.next_param-n.ensures))
+pub write_params-returns-in_default : goal.write_params-returns-in_default
+write_params-returns-in_default t c = params.params_done c.loop-v.invariant (search rules)
 
 pub write_subexpression-shape_of-out-in_default : goal.write_subexpression-shape_of-out-in_default
 write_subexpression-shape_of-out-in_default t c = writes.written_length c.put_bytes.ensures
 
 pub write_subexpression-returns-in_default : goal.write_subexpression-returns-in_default
 write_subexpression-returns-in_default t c =
-    let enter = c.enter-r in
     let a = c.args in
-    params.sub_empty a.text.now a.words.now a.s (cases.not_entered c.in_default.is enter.ensures) c.put_bytes.ensures
+    params.sub_empty a.text.now a.words.now a.s (cases.not_entered c.in_default.is c.enter.ensures) c.put_bytes.ensures
 
 pub write_subexpression-write_call-q-requires : goal.write_subexpression-write_call-q-requires
 write_subexpression-write_call-q-requires t c =
-    let enter = c.enter-r in
-    let i = (cases.entered c.in-Done.is enter.ensures) in let e = params.sub_size i in
+    let i = (cases.entered c.in-Ok.is c.enter.ensures) in let e = params.sub_size i in
     (omega (arith, c.decreases), i.linked.parts)
 
 pub write_subexpression-shape_of-out : goal.write_subexpression-shape_of-out
@@ -299,9 +267,8 @@ write_subexpression-shape_of-out t c =
 
 pub write_subexpression-returns : goal.write_subexpression-returns
 write_subexpression-returns t c =
-    let enter = c.enter-r in
     let good = c.well_formed in
     let put_bytes = c.put_bytes-p in
     let write_call = c.write_call-q in
-    params.sub_written (cases.entered c.in-Done.is enter.ensures) (omega (arith, good.0.0)) put_bytes.ensures
+    params.sub_written (cases.entered c.in-Ok.is c.enter.ensures) (omega (arith, good.0.0)) put_bytes.ensures
     write_call.ensures c.put_bytes-2.ensures

@@ -3,7 +3,7 @@ use Prim.Native.Nat.{◌+◌, ◌-◌, ◌*◌}
 use lib.ListN.{length}
 use Rattle.listing.specs.Held.{held_keys}
 use Rattle.expression.specs.declared.parameter.Parameter.TheVariants as Parameter
-use Rattle.expression.specs.declared.again.Bound.TheVariants as Bound
+use Rattle.std.specs.Prelude.{None}
 use Rattle.expression.specs.Answers.{param_means, call_means}
 use Rattle.listing.proofs.Size.{param_size, call_size, keys_size}
 use Rattle.listing.proofs.ParamWrites as params
@@ -20,13 +20,13 @@ abbrev pub decreases-write_held : goal.decreases-write_held
 decreases-write_held l = 4 * keys_size (held_keys l.text.now l.words.now l.depth l.held.now)
 
 abbrev pub decreases-write_keys : goal.decreases-write_keys
-decreases-write_keys l = 4 * params.keys_all l.text.now l.words.now l.parts Bound.None + 2
+decreases-write_keys l = 4 * params.keys_all l.text.now l.words.now l.parts None + 2
 
 abbrev pub decreases-write_least_keys : goal.decreases-write_least_keys
-decreases-write_least_keys l = 4 * params.keys_all l.text.now l.words.now l.parts Bound.None
+decreases-write_least_keys l = 4 * params.keys_all l.text.now l.words.now l.parts None
 
 abbrev pub decreases-write_many_keys : goal.decreases-write_many_keys
-decreases-write_many_keys l = 4 * params.keys_all l.text.now l.words.now l.parts Bound.None + 1
+decreases-write_many_keys l = 4 * params.keys_all l.text.now l.words.now l.parts None + 1
 
 abbrev pub decreases-write_param : goal.decreases-write_param
 decreases-write_param l = 4 * param_size (param_means l.text.now l.words.now l.v) + 1
