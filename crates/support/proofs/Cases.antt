@@ -1,7 +1,7 @@
 -- Which of two cases holds, and a choice whose test is known. Assumes nothing.
 use Prim.Native.Nat.{ℕ, ◌≤◌, ◌<◌}
 use native.Mathlib.Omega.{arith}
-use mathlib.Core.Bool.{Bool, true, false}
+use mathlib.Core.Bool.{Bool, true, false, ◌||◌}
 use mathlib.Core.Logic.{◌⊎◌, inl, inr}
 use mathlib.Core.Path.{◌≡◌, refl}
 use lib.Dec.{ltb}
@@ -18,6 +18,15 @@ below_or_not a b = go (ltb a b) refl
     go : (t : Bool) → ltb a b ≡ t → (a < b) ⊎ (b ≤ a)
     go true e = inl (ltb-true a b e)
     go false e = inr (ltb-false a b e)
+
+-- neither test of two
+pub none_left : (a b : Bool) → a || b ≡ false → a ≡ false
+none_left true b e = e
+none_left false b e = refl
+
+pub none_right : (a b : Bool) → a || b ≡ false → b ≡ false
+none_right true b e = cc
+none_right false b e = e
 
 -- no test is both
 pub differ : {A : Type 0} {b : Bool} → b ≡ true → b ≡ false → A

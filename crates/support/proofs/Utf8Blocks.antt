@@ -7,11 +7,11 @@ use mathlib.Core.Bool.{Bool, true, false, ◌&&◌}
 use mathlib.Core.Logic.{◌⊎◌, inl, inr, ⊎_elim}
 use lib.Dec.{leb, ltb}
 use lib.ListN.{length, get_or, take, drop, length-drop}
-use lib.Seq.{drop-cons, drop-drop, get_or-drop}
+use lib.Seq.{drop-cons, drop-drop, get_or-drop, get_or-take}
 use borrow.Author.Tests.{leb-true, ltb-false}
 use Rattle.support.specs.Bytes.{Bytes, if}
 use Rattle.support.specs.Utf8.{to, tail, in_range, is_tail, rows, fits, char_length, valid_length}
-use Rattle.support.specs.Code.Blocks.{count, is_high, Second, Unfinished, InTable, Follows, tailing, starting, FollowsAll}
+use Rattle.support.specs.Code.Blocks.{Second, Unfinished, InTable, Follows, tailing, starting, FollowsAll}
 use Rattle.support.proofs.Cases.{below_or_not, differ}
 use Rattle.support.proofs.Pieces.{leading_next}
 use Rattle.support.proofs.Table.{and_left, and_right}
@@ -200,22 +200,18 @@ pub back_on : (s : Bytes) (from i : ℕ) → from ≤ i → is_tail (get_or s fr
 back_on s from i h e f = ⊎_elim (λ k. k) (λ k. let q : i ≡ from = omega arith in differ f (ap (λ n. is_tail (get_or s n 0)) q ∙ e)) (below_or_not from i)
 
 -- a block of ASCII
-ascii_run : (n : ℕ) (s : Bytes) → n ≤ length s → count is_high (take n s) ≡ 0 → valid_length s ≡ n + valid_length (drop n s)
-unfolding count
-ascii_run zero s h z = omega arith
-ascii_run (suc n) [] h z = absurd (omega arith)
-ascii_run (suc n) (b ∷ s) h z = go (ltb 0x7F b) refl z (λ w. ascii_run n s (omega arith) w)
-  where
-    go : (u : Bool) → ltb 0x7F b ≡ u → if u (suc (count is_high (take n s))) (count is_high (take n s)) ≡ 0 → (count is_high (take n s) ≡ 0 → valid_length s ≡ n + valid_length (drop n s))
-        → valid_length (b ∷ s) ≡ suc n + valid_length (drop n s)
-    go true q w r = absurd (omega arith)
-    go false q w r = omega (arith, r w, leading_next char_length (b ∷ s) 0 1 (one_byte b s (omega (arith, ltb-false 0x7F b q))) (omega arith))
+ascii_run : (n : ℕ) (s : Bytes) → n ≤ length s → ((k : ℕ) → k < n → get_or s k 0 < 0x80) → valid_length s ≡ n + valid_length (drop n s)
+ascii_run zero s h f = omega arith
+ascii_run (suc n) [] h f = absurd (omega arith)
+ascii_run (suc n) (b ∷ s) h f =
+    omega (arith, ascii_run n s (omega arith) (λ k l. f (suc k) (omega arith)), leading_next char_length (b ∷ s) 0 1 (one_byte b s (f 0 (omega arith))) (omega arith))
 
 module _ (s : Bytes) (i e : ℕ) (h : i ≤ e) (l : e ≤ length s) where
-  pub ascii_block : count is_high (take (e - i) (drop i s)) ≡ 0 → valid_length (drop i s) ≡ (e - i) + valid_length (drop e s)
-  ascii_block z =
+  pub ascii_block : ((k : ℕ) → get_or (take (e - i) (drop i s)) k 0 < 0x80) → valid_length (drop i s) ≡ (e - i) + valid_length (drop e s)
+  ascii_block f =
       let q : i + (e - i) ≡ e = omega arith in
-      ascii_run (e - i) (drop i s) (omega (arith, length-drop i s)) z ∙ ap (λ t. (e - i) + valid_length t) (drop-drop (e - i) i s ∙ ap (λ n. drop n s) q)
+      ascii_run (e - i) (drop i s) (omega (arith, length-drop i s)) (λ k l. omega (arith, f k, get_or-take (e - i) (drop i s) k 0 l))
+      ∙ ap (λ t. (e - i) + valid_length t) (drop-drop (e - i) i s ∙ ap (λ n. drop n s) q)
 
   pub chars_block : 3 ≤ i → (r : ℕ) → i ≤ r → r < e → is_tail (get_or s i 0) ≡ false → is_tail (get_or s r 0) ≡ false → FollowsAll (take (e - (i - 3)) (drop (i - 3) s))
       → valid_length (drop i s) ≡ (r - i) + valid_length (drop r s)

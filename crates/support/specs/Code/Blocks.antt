@@ -3,6 +3,7 @@ use Rattle.std.specs.Prelude.{ℕ, suc, ◌+◌, ◌≤◌, ◌<◌, min, ◌⊎
 use Rattle.support.specs.Bytes.{Bytes, if}
 use Rattle.support.specs.Position.{largest}
 use Rattle.support.specs.Utf8.{is_tail}
+use Rattle.support.specs.declared.position.Counts.{Counts}
 
 -- how many of the bytes are of the class f
 unfoldable pub count : (ℕ → Bool) → Bytes → ℕ
@@ -17,6 +18,11 @@ is_feed b = eqb b 10
 
 abbrev pub is_first : ℕ → Bool
 is_first b = not (is_tail b)
+
+-- how many of each there are among these bytes
+pub record CountsAre (s : Bytes) (r : Counts) : Type 0 where
+  pub feeds : r.feeds ≡ count is_feed s
+  pub firsts : r.firsts ≡ count is_first s
 
 -- a line or a column with so many more; the largest number stays
 abbrev pub more : ℕ → ℕ → ℕ

@@ -1,4 +1,4 @@
--- `support::utf8::ascii_end` meets its contract: the invariant says that a character stands at each offset from `from` up to `i`. Assumes nothing.
+-- A character stands at each offset from `from` up to `i`. Assumes nothing.
 use native.Mathlib.Omega.{arith}
 use lib.ListN.{length-drop}
 use Rattle.support.specs.Utf8.{char_length}

@@ -1,0 +1,13 @@
+-- The counts so far are those of the bytes so far. Assumes nothing.
+use Prim.Native.Nat.{◌≤◌}
+use mathlib.Core.Path.{◌≡◌}
+use lib.ListN.{take}
+use Rattle.support.specs.Code.Blocks.{count, is_feed, is_first}
+use Rattle.support.proofs.position.counts_in.Given as goal
+
+abbrev pub invariant-loop-b : goal.invariant-loop-b
+invariant-loop-b l =
+    (l.feeds ≤ l.b-index)
+    × (l.firsts ≤ l.b-index)
+    × (l.feeds ≡ count is_feed (take l.b-index l.block))
+    × (l.firsts ≡ count is_first (take l.b-index l.block))
