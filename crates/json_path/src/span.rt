@@ -34,6 +34,7 @@ pub fn span_count(words: &[u32]) -> usize
 }
 
 // The span of number `k`; words past the end are 0.
+// Stays: word by word. `as_chunks` leaves out words over, and `next_span` takes 1.4 times as long.
 pub fn span_at(words: &[u32], k: usize) -> Span
     ensures { result ≡ span_at words.now k }
 {
