@@ -107,13 +107,13 @@ impl Parameter {
     {
         match self {
             Parameter::Name(n) => Some(n),
-            Parameter::Path(Path::Relative(p)) => Some(Name {
-                start: p.start,
-                end: p.end,
+            Parameter::Path(Path::Relative(q)) => Some(Name {
+                start: q.start,
+                end: q.end,
             }),
-            Parameter::Path(Path::Local(p)) => Some(Name {
-                start: p.start,
-                end: p.end,
+            Parameter::Path(Path::Local(l)) => Some(Name {
+                start: l.start,
+                end: l.end,
             }),
             _ => None,
         }
