@@ -60,6 +60,7 @@ pub enum Part {
 }
 
 // A link to the parts of an expression: those read from span number `from` on, up to the limit.
+// Stays: a type beside `Subexpression`, so that parts are not entered as if they were an expression.
 #[derive(Clone, Copy)]
 pub struct Parts {
     pub from: usize,
