@@ -3,29 +3,24 @@ use Prim.Native.Nat.{ℕ, ◌≤◌}
 use native.Mathlib.Omega.{arith}
 use mathlib.Core.Path.{◌≡◌, refl, sym, ap, subst, ◌∙◌}
 use mathlib.Core.List.{List, [], ◌∷◌}
-use mathlib.Core.Bool.{Bool, true, false}
+use mathlib.Core.Bool.{false}
 use mathlib.Core.Option.{Option, none, some}
 use Rattle.std.specs.Prelude.{Some, None, Result, Ok, Err}
 use Rattle.std.specs.Prelude as std
-use Rattle.support.specs.Bytes.{Bytes, if, precedes}
+use Rattle.support.specs.Bytes.{Bytes}
 use Rattle.json_path.specs.Span.{Span, spans_from}
 use Rattle.json_path.specs.Answers.{name_means}
 use Rattle.json_path.specs.declared.path.Name.{Name}
 use Rattle.expression.specs.Expression.{Param, subexpression, Params, param, no_keys, key, add_param, params_of, keys_of}
 use Rattle.expression.specs.Expression as spec
 use Rattle.expression.specs.Read.{Read, done, failed, mapped, Reads}
-use Rattle.expression.specs.Read as spec_read
-use Rattle.expression.specs.Readers.{read_expression}
-use Rattle.expression.specs.Answers.{fault_means, call_or, param_means, ParamLinked, part_means, PartLinked, parts_read, FirstPart, params_read, expression_means, ExpressionIs}
-use Rattle.expression.specs.Again.{ParamStepIs, bound_means, is_above, keys_above, KeyStepIs, SubexpressionIs}
+use Rattle.expression.specs.Answers.{param_means, part_means, PartLinked, parts_read, FirstPart, params_read}
+use Rattle.expression.specs.Again.{ParamStepIs, bound_means, keys_above, KeyStepIs}
 use Rattle.expression.specs.Least.{lower, entry, least_of, least_means, LeastLinked, LeastIs}
 use Rattle.expression.specs.declared.parameter.Parameter.{Parameter}
-use Rattle.expression.specs.declared.parameter.Subexpression.{Subexpression}
 use Rattle.expression.specs.declared.parameter.Part.{Part}
 use Rattle.expression.specs.declared.parameter.Parts.{Parts}
 use Rattle.expression.specs.declared.parameter.Hash.{Hash}
-use Rattle.expression.specs.declared.parameter.Fault.{Fault}
-use Rattle.expression.specs.declared.parameter.ExpressionSpec.{ExpressionSpec}
 use Rattle.expression.proofs.Laws.{mapped_twice}
 use Rattle.expression.proofs.KeyLaws.{sorted_keys, first_least, others_above, none_above, lower_none, lower_lower}
 
@@ -131,12 +126,3 @@ module _ {text : Bytes} {words : List ℕ} {p : Parts} {b : std.Option Name} {re
           linked = subst (λ z. LeastLinked text words z) f g.linked;
         };
       })
-
--- ---- into a subexpression
-
-pub enters : (text : Bytes) (words : List ℕ) (s : Subexpression) (r : Result ExpressionSpec Fault)
-    → ExpressionIs text words (read_expression false text s.depth s.limit (spans_from words s.from)) s.from r
-    → SubexpressionIs text words s r
-unfolding param_means expression_means
-enters text words s (Ok x) i = record { means = record { means = ap (λ o. subexpression (call_or o)) i.reads; linked = i.linked } }
-enters text words s (Err f) i = record { means = i.reads }

@@ -5,16 +5,15 @@ use mathlib.Core.List.{List, []}
 use mathlib.Core.Bool.{Bool, false}
 use Rattle.std.specs.Prelude.{Option, Some, None, Result, Ok, Err}
 use Rattle.support.specs.Bytes.{Bytes}
-use Rattle.json_path.specs.Span.{Span, spans_from}
+use Rattle.json_path.specs.Span.{spans_from}
 use Rattle.json_path.specs.declared.path.Name.{Name}
 use Rattle.expression.specs.Expression.{Param, Expression}
 use Rattle.expression.specs.Read.{Read, done, failed}
-use Rattle.expression.specs.Readers.{read_hash, read_expression}
-use Rattle.expression.specs.Answers.{fault_means, ParamIs, TildeIs, BlockIs, OwnIs, HashIs, parts_read, FirstPart, PartIs, ExpressionIs}
+use Rattle.expression.specs.Readers.{read_expression}
+use Rattle.expression.specs.Answers.{fault_means, ParamIs, TildeIs, parts_read, FirstPart, PartIs, ExpressionIs}
 use Rattle.expression.specs.Again.{ParamStepIs, KeyStepIs, Entered, SubexpressionIs}
 use Rattle.expression.specs.declared.parameter.Parameter.{Parameter}
 use Rattle.expression.specs.declared.parameter.Subexpression.{Subexpression}
-use Rattle.expression.specs.declared.parameter.BlockParam.{BlockParam}
 use Rattle.expression.specs.declared.parameter.Hash.{Hash}
 use Rattle.expression.specs.declared.parameter.Part.{Part}
 use Rattle.expression.specs.declared.parameter.Parts.{Parts}

@@ -9,8 +9,6 @@ use Rattle.expression.specs.Expression.{Param, Part, parameter, hash, block, rig
 use Rattle.expression.specs.Answers.{param_means, ParamLinked, part_means, PartLinked}
 use Rattle.expression.specs.Again.{bound_means, is_above}
 use Rattle.expression.specs.declared.parameter.Part as declared
-use Rattle.expression.specs.declared.parameter.Part.TheVariants as Part
-use Rattle.expression.specs.declared.parameter.Parameter.{Parameter}
 use Rattle.expression.specs.declared.parameter.Hash.{Hash}
 
 -- the lesser key of an earlier and a later one; of the same key the later

@@ -76,9 +76,9 @@ pub fn next_key(
 {
     let mut rest = parts;
     let mut least = None;
-    while let Some((x, after)) = next_part(text, words, rest, false)? {
+    while let Some((x, next)) = next_part(text, words, rest, false)? {
         least = least_then(text, bound, least, x);
-        rest = after;
+        rest = next;
     }
     Ok(least)
 }

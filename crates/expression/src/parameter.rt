@@ -60,6 +60,7 @@ pub enum Part {
 }
 
 // A link to the parts of an expression: those read from span number `from` on, up to the limit.
+// Stays: a type beside `Subexpression`, so that parts are not entered as if they were an expression.
 #[derive(Clone, Copy)]
 pub struct Parts {
     pub from: usize,
@@ -107,13 +108,13 @@ impl Parameter {
     {
         match self {
             Parameter::Name(n) => Some(n),
-            Parameter::Path(Path::Relative(p)) => Some(Name {
-                start: p.start,
-                end: p.end,
+            Parameter::Path(Path::Relative(q)) => Some(Name {
+                start: q.start,
+                end: q.end,
             }),
-            Parameter::Path(Path::Local(p)) => Some(Name {
-                start: p.start,
-                end: p.end,
+            Parameter::Path(Path::Local(l)) => Some(Name {
+                start: l.start,
+                end: l.end,
             }),
             _ => None,
         }

@@ -3,6 +3,8 @@
 // the cycle fewer spans remain, and in a subexpression less depth. Each answers what it read and the
 // number from which the spans after it are, or why not. `judged` says whether literals are judged:
 // they are where a tag is walked, and not again where what was read is read again.
+// Stays: `judged` is a flag and no closure, since the specification's readers take the same flag.
+// Stays: `text` and `words` are two parameters, since no fact ties them: any words go with any text.
 ghost use Rattle.std.specs.Prelude.{◌+◌, ◌<◌, length};
 ghost use Rattle.json_path.specs.Span.{spans_from};
 ghost use Rattle.expression.specs.Readers.{read_name, read_subexpression, read_param, read_value, read_expression};
@@ -65,6 +67,7 @@ pub fn parse_name(
     ensures { ParamIs text.now words.now (read_name judged text.now depth (spans_from words.now at)) (at + 1) result }
 {
     let s = next_span(words, at).ok_or(Fault::Ended)?;
+    // Stays: here and below one match over the tag number, document 01's form.
     match s.tag {
         21..=25 => {
             let name = Name {

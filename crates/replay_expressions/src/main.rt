@@ -6,17 +6,16 @@
 ghost use Rattle.std.specs.Prelude.{◌≤◌, length, IfOk};
 
 use card::stored::{line_at, read_words};
-use expression::again::{Bound, KeyStep, ParamStep, enter, next_key, next_param};
+use expression::again::{enter, next_key, next_param};
 use expression::parameter::{
-    AsName, BlockParam, BlockRead, ExpressionRead, ExpressionSpec, Fault, HashRead, ParamRead,
-    Parameter, Parts, Subexpression, TildeRead,
+    BlockParam, ExpressionSpec, Fault, Hash, Parameter, Parts, Subexpression,
 };
 use expression::parse::{
     parse_block_param, parse_expression, parse_hash, parse_name, parse_param, parse_subexpression,
     parse_tilde,
 };
 use json_path::path::{Name, Path};
-use json_path::span::{Next, Span, next_span, span_at, span_count};
+use json_path::span::{Span, next_span, span_at, span_count};
 use std::io::{self, Read};
 use support::bytes::part;
 
@@ -38,11 +37,10 @@ fn show_bit(rt: &impl Print, b: bool) -> io::Result<()> {
 // The number of the next walked span, or `end`.
 fn show_then(rt: &impl Print, words: &[u32], k: usize) -> io::Result<()> {
     show(rt, b" then ")?;
-    let n = next_span(words, k);
-    let Next::Span(s) = n else {
-        return show(rt, b"end");
-    };
-    show_number(rt, s.number)
+    match next_span(words, k) {
+        Some(s) => show_number(rt, s.number),
+        None => show(rt, b"end"),
+    }
 }
 
 fn show_fault(rt: &impl Print, f: Fault) -> io::Result<()> {
@@ -62,11 +60,10 @@ fn show_name(rt: &impl Print, text: &[u8], name: Name) -> io::Result<()> {
 
 // The name that a parameter gives.
 fn show_as_name(rt: &impl Print, text: &[u8], p: Parameter) -> io::Result<()> {
-    let n = p.as_name();
-    let AsName::Name(name) = n else {
-        return show(rt, b" nameless");
-    };
-    show_name(rt, text, name)
+    match p.as_name() {
+        Some(name) => show_name(rt, text, name),
+        None => show(rt, b" nameless"),
+    }
 }
 
 fn show_path(rt: &impl Print, text: &[u8], path: Path) -> io::Result<()> {
@@ -111,32 +108,13 @@ fn show_parameter(rt: &impl Print, text: &[u8], p: Parameter) -> io::Result<()> 
     }
 }
 
-fn show_param_read(rt: &impl Print, text: &[u8], words: &[u32], r: ParamRead) -> io::Result<()> {
-    match r {
-        ParamRead::Done(p, next) => {
-            show_parameter(rt, text, p)?;
-            show_then(rt, words, next)
-        }
-        ParamRead::Failed(f) => show_fault(rt, f),
-    }
-}
-
-fn show_hash_read(rt: &impl Print, text: &[u8], words: &[u32], r: HashRead) -> io::Result<()> {
-    match r {
-        HashRead::Done(h, next) => {
-            let key = h.key;
-            let value = h.value;
-            show_name(rt, text, key)?;
-            show_parameter(rt, text, value)?;
-            show_then(rt, words, next)
-        }
-        HashRead::Failed(f) => show_fault(rt, f),
-    }
+fn show_hash(rt: &impl Print, text: &[u8], h: Hash) -> io::Result<()> {
+    show_name(rt, text, h.key)?;
+    show_parameter(rt, text, h.value)
 }
 
 fn show_block_param(rt: &impl Print, text: &[u8], block: BlockParam) -> io::Result<()> {
     match block {
-        BlockParam::None => show(rt, b" none"),
         BlockParam::Single(a) => show_name(rt, text, a),
         BlockParam::Pair(a, b) => {
             show_name(rt, text, a)?;
@@ -145,64 +123,52 @@ fn show_block_param(rt: &impl Print, text: &[u8], block: BlockParam) -> io::Resu
     }
 }
 
-fn show_block_read(rt: &impl Print, text: &[u8], words: &[u32], r: BlockRead) -> io::Result<()> {
-    let BlockRead::Done(block, next) = r else {
-        return show(rt, b" ended");
-    };
-    show_block_param(rt, text, block)?;
-    show_then(rt, words, next)
-}
-
-fn show_tilde_read(rt: &impl Print, words: &[u32], r: TildeRead) -> io::Result<()> {
-    let TildeRead::Done(left, next) = r else {
-        return show(rt, b" ended");
-    };
-    show(rt, b" ")?;
-    show_bit(rt, left)?;
-    show_then(rt, words, next)
+// What a reader read and the number of the next span, or its fault.
+fn show_read<T: Copy, F: Fn(T) -> io::Result<()>>(
+    rt: &impl Print,
+    words: &[u32],
+    r: Result<(T, usize), Fault>,
+    show_value: F,
+) -> io::Result<()>
+    requires { F.IsAlwaysCallable show_value }
+{
+    match r {
+        Ok((x, next)) => {
+            show_value(x)?;
+            show_then(rt, words, next)
+        }
+        Err(f) => show_fault(rt, f),
+    }
 }
 
 // The parameters in order.
 fn show_params(rt: &impl Print, text: &[u8], words: &[u32], parts: Parts) -> io::Result<()> {
     let mut rest = parts;
     loop {
-        let n = next_param(text, words, rest);
-        match n {
-            ParamStep::Param(v, after) => {
+        match next_param(text, words, rest) {
+            Ok(Some((v, after))) => {
                 show(rt, b" param")?;
                 show_parameter(rt, text, v)?;
                 rest = after;
             }
-            ParamStep::End => {
-                return Ok(());
-            }
-            ParamStep::Failed(f) => {
-                return show_fault(rt, f);
-            }
+            Ok(None) => return Ok(()),
+            Err(f) => return show_fault(rt, f),
         }
     }
 }
 
 // The keys in byte order, at most as many as there are spans.
 fn show_keys(rt: &impl Print, text: &[u8], words: &[u32], parts: Parts) -> io::Result<()> {
-    let mut bound = Bound::None;
+    let mut bound = None;
     for _ in 0..span_count(words) {
-        let n = next_key(text, words, parts, bound);
-        match n {
-            KeyStep::Key(h) => {
-                let key = h.key;
-                let value = h.value;
+        match next_key(text, words, parts, bound) {
+            Ok(Some(h)) => {
                 show(rt, b" key")?;
-                show_name(rt, text, key)?;
-                show_parameter(rt, text, value)?;
-                bound = Bound::Above(key);
+                show_hash(rt, text, h)?;
+                bound = Some(h.key);
             }
-            KeyStep::End => {
-                return Ok(());
-            }
-            KeyStep::Failed(f) => {
-                return show_fault(rt, f);
-            }
+            Ok(None) => return Ok(()),
+            Err(f) => return show_fault(rt, f),
         }
     }
     Ok(())
@@ -214,17 +180,17 @@ fn show_expression(
     words: &[u32],
     x: ExpressionSpec,
 ) -> io::Result<()> {
-    let name = x.name;
-    let parts = x.parts;
-    let block = x.block_param;
     show(rt, b" ")?;
     show_bit(rt, x.omit_pre_ws)?;
-    show_parameter(rt, text, name)?;
-    show_as_name(rt, text, name)?;
-    show_params(rt, text, words, parts)?;
-    show_keys(rt, text, words, parts)?;
+    show_parameter(rt, text, x.name)?;
+    show_as_name(rt, text, x.name)?;
+    show_params(rt, text, words, x.parts)?;
+    show_keys(rt, text, words, x.parts)?;
     show(rt, b" as")?;
-    show_block_param(rt, text, block)?;
+    match x.block_param {
+        Some(block) => show_block_param(rt, text, block)?,
+        None => show(rt, b" none")?,
+    }
     show(rt, b" ")?;
     show_bit(rt, x.omit_pro_ws)?;
     show_then(rt, words, x.next)
@@ -234,11 +200,11 @@ fn show_expression_read(
     rt: &impl Print,
     text: &[u8],
     words: &[u32],
-    r: ExpressionRead,
+    r: Result<ExpressionSpec, Fault>,
 ) -> io::Result<()> {
     match r {
-        ExpressionRead::Done(x) => show_expression(rt, text, words, x),
-        ExpressionRead::Failed(f) => show_fault(rt, f),
+        Ok(x) => show_expression(rt, text, words, x),
+        Err(f) => show_fault(rt, f),
     }
 }
 
@@ -248,29 +214,28 @@ fn show_at(rt: &impl Print, text: &[u8], words: &[u32], k: usize, depth: usize) 
     let at = after(words, k);
     show_number(rt, k)?;
     show(rt, b" tilde")?;
-    show_tilde_read(rt, words, parse_tilde(words, at))?;
+    show_read(rt, words, parse_tilde(words, at), |left| {
+        show(rt, b" ")?;
+        show_bit(rt, left)
+    })?;
     show(rt, b" | block")?;
-    show_block_read(rt, text, words, parse_block_param(words, at, s.end))?;
+    let block = parse_block_param(words, at, s.end);
+    show_read(rt, words, block, |b| show_block_param(rt, text, b))?;
     show(rt, b" | name")?;
-    show_param_read(rt, text, words, parse_name(text, words, at, depth, true))?;
+    let name = parse_name(text, words, at, depth, true);
+    show_read(rt, words, name, |p| show_parameter(rt, text, p))?;
     show(rt, b" | param")?;
-    show_param_read(rt, text, words, parse_param(text, words, at, depth, true))?;
+    let param = parse_param(text, words, at, depth, true);
+    show_read(rt, words, param, |p| show_parameter(rt, text, p))?;
     show(rt, b" | hash")?;
-    show_hash_read(rt, text, words, parse_hash(text, words, at, depth, true))?;
+    let hash = parse_hash(text, words, at, depth, true);
+    show_read(rt, words, hash, |h| show_hash(rt, text, h))?;
     show(rt, b" | sub")?;
-    show_param_read(
-        rt,
-        text,
-        words,
-        parse_subexpression(text, words, at, s.end, depth, true),
-    )?;
+    let sub = parse_subexpression(text, words, at, s.end, depth, true);
+    show_read(rt, words, sub, |p| show_parameter(rt, text, p))?;
     show(rt, b" | expression")?;
-    show_expression_read(
-        rt,
-        text,
-        words,
-        parse_expression(text, words, at, s.end, depth, true),
-    )?;
+    let expression = parse_expression(text, words, at, s.end, depth, true);
+    show_expression_read(rt, text, words, expression)?;
     show(rt, b"\n")
 }
 

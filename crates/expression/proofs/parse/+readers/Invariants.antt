@@ -1,6 +1,6 @@
 -- The readers' cycle. Every measure counts the words from the reader's span on, five for each, and then the reader's place in the cycle, so
--- each call falls: a subexpression, an expression and a name start at the same span, and what they call after a span starts behind it. Each
--- way out is one law of Laws; the loop over the parts keeps what their block parameters and tildes come to. Assumes nothing.
+-- each call falls: a subexpression, an expression and a name start at the same span, and what they call after a span starts behind it. The
+-- loop over the parts keeps what their block parameters and tildes come to. Assumes nothing.
 use Prim.Native.Nat.{◌+◌, ◌-◌, ◌*◌}
 use lib.ListN.{length}
 use Rattle.expression.proofs.Laws as laws
