@@ -8,7 +8,6 @@ mod lines;
 mod list;
 mod raw;
 mod reason;
-mod small;
 mod tag;
 mod turn;
 mod visit;

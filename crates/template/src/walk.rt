@@ -1,5 +1,6 @@
 // The walk: it holds the store.
-ghost use Rattle.std.specs.Prelude.{◌≡◌};
+ghost use Rattle.std.specs.Prelude.{◌≡◌, ◌*◌, ◌≤◌, ◌<◌};
+ghost use Rattle.json_path.specs.Span.{span_count};
 ghost use Rattle.template.specs.Element.{Good};
 ghost use Rattle.template.specs.Lines.{LinesAre};
 ghost use Rattle.template.specs.Turn.{LookIs};
@@ -85,9 +86,9 @@ pub(crate) fn rest_of(text: &[u8], words: &[u32], m: Marks, h: Here) -> Element
 // Each turn: what is visited, the gap, the trim of the last text, the act. The store and the frames are
 // written at every turn, with what was there where nothing changes. At the end of the list the text that is
 // left joins the root's body. Then the tree is listed: from element to element, and back to the block that
-// waits where a body ends. What the output has no room for is only counted. Both loops stand in one
-// function, since the store cannot be lent and is too big to be handed on.
-pub(crate) fn walk(
+// waits where a body ends. What the output has no room for is only counted. `N` is how many elements the
+// store has: to fill a large one takes longer than the work on a small card.
+pub(crate) fn walk<const N: usize>(
     text: &[u8],
     starts: &[bool],
     ends: &[bool],
@@ -97,9 +98,11 @@ pub(crate) fn walk(
 ) -> Answer
     requires good { Good text.now words.now }
     requires lines { LinesAre text.now starts.now ends.now }
+    requires few { 2 * span_count words.now < N }
+    requires size { (1 < N) × (N ≤ 8193) }
     ensures { BufferedIs (walk_listing text.now words.now o) out.old out.new result }
 {
-    let mut elements = [Element::EMPTY; Element::LIMIT];
+    let mut elements = [Element::EMPTY; N];
     let mut levels = [Frame::EMPTY; Frame::LIMIT];
     let mut top = Frame::EMPTY;
     let mut marks = Marks::FIRST;
@@ -205,7 +208,7 @@ pub(crate) fn walk(
     elements[rl] = rz;
     let rt = rj.top;
     // The listing.
-    let mut waiting = [Waiting::EMPTY; Element::LIMIT];
+    let mut waiting = [Waiting::EMPTY; N];
     let mut p = put_bytes(out, 0, b"[template\n");
     let mut link = rt.first;
     let mut waits: usize = 0;

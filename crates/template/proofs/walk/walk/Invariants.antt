@@ -8,13 +8,13 @@ use Rattle.template.proofs.Pass as pass
 use Rattle.template.proofs.walk.walk.Given as goal
 
 abbrev pub invariant-loop-r : goal.invariant-loop-r
-invariant-loop-r l = Held l.text l.words l.o 8193 l.elements l.levels l.top l.marks l.here l.depth l.len l.count l.closing l.at
+invariant-loop-r g l = Held l.text l.words l.o g.row.N l.elements l.levels l.top l.marks l.here l.depth l.len l.count l.closing l.at
 
 abbrev pub decreases-loop-r : goal.decreases-loop-r
-decreases-loop-r l = 2 * (span_count l.words - l.at) + l.count
+decreases-loop-r g l = 2 * (span_count l.words - l.at) + l.count
 
 abbrev pub invariant-loop-link : goal.invariant-loop-link
-invariant-loop-link l = pass.Pass l.text l.words l.elements l.initial.link 8193 l.initial.out l.initial.p l.out l.waiting l.p l.link l.waits
+invariant-loop-link g l = pass.Pass l.text l.words l.elements l.initial.link g.row.N l.initial.out l.initial.p l.out l.waiting l.p l.link l.waits
 
 abbrev pub decreases-loop-link : goal.decreases-loop-link
-decreases-loop-link l = lister.left_size l.text l.words l.elements l.waiting l.link l.waits
+decreases-loop-link g l = lister.left_size l.text l.words l.elements l.waiting l.link l.waits
