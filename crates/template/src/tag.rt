@@ -19,14 +19,14 @@ pub struct TagExpression {
     pub next: usize,
 }
 
-#[derive(Clone, Copy)]
-pub enum TagRead {
-    Done(TagExpression),
-    Failed(Fault),
-}
-
 // From number `from` on up to the limit; `left`: a left tilde stood before.
-fn read_own(text: &[u8], words: &[u32], from: usize, limit: usize, left: bool) -> TagRead
+fn read_own(
+    text: &[u8],
+    words: &[u32],
+    from: usize,
+    limit: usize,
+    left: bool,
+) -> Result<TagExpression, Fault>
     ensures { OwnReadIs text.now words.now from limit left result }
 {
     let r = parse_expression(text, words, from, limit, Subexpression::LIMIT, true);
@@ -34,7 +34,7 @@ fn read_own(text: &[u8], words: &[u32], from: usize, limit: usize, left: bool) -
         ExpressionRead::Done(x) => {
             let name = x.name;
             let pre = if left { true } else { x.omit_pre_ws };
-            TagRead::Done(TagExpression {
+            Ok(TagExpression {
                 omit_pre_ws: pre,
                 omit_pro_ws: x.omit_pro_ws,
                 name: name,
@@ -42,27 +42,27 @@ fn read_own(text: &[u8], words: &[u32], from: usize, limit: usize, left: bool) -
                 next: x.next,
             })
         }
-        ExpressionRead::Failed(f) => TagRead::Failed(f),
+        ExpressionRead::Failed(f) => Err(f),
     }
 }
 
 // Tag 10 takes a left tilde, a name, then its expression.
-fn read_chain(text: &[u8], words: &[u32], s: Span) -> TagRead
+fn read_chain(text: &[u8], words: &[u32], s: Span) -> Result<TagExpression, Fault>
     requires { s.number < span_count words.now }
     ensures { s.tag ≡ 10 → TagReadIs text.now words.now s result }
 {
     let t = parse_tilde(words, s.number + 1);
     let TildeRead::Done(left, at) = t else {
-        return TagRead::Failed(Fault::Ended);
+        return Err(Fault::Ended);
     };
     let p = parse_name(text, words, at, Subexpression::LIMIT, true);
     match p {
         ParamRead::Done(_, next) => read_own(text, words, next, s.end, left),
-        ParamRead::Failed(f) => TagRead::Failed(f),
+        ParamRead::Failed(f) => Err(f),
     }
 }
 
-pub(crate) fn read_tag(text: &[u8], words: &[u32], s: Span) -> TagRead
+pub(crate) fn read_tag(text: &[u8], words: &[u32], s: Span) -> Result<TagExpression, Fault>
     requires { s.number < span_count words.now }
     ensures { TagReadIs text.now words.now s result }
 {

@@ -368,20 +368,20 @@ pub struct Gapped {
     pub join: usize,
 }
 
-pub(crate) fn take_gap(kept: bool, gap: Element, len: usize) -> Gapped
+pub(crate) fn take_gap(gap: Option<Element>, len: usize) -> Gapped
     requires { len ≤ 8192 }
-    ensures { result ≡ gapped_of kept gap len }
+    ensures { result ≡ gapped_of gap len }
 {
-    if kept {
-        return Gapped {
-            made: gap,
+    match gap {
+        Some(made) => Gapped {
+            made: made,
             len: len + 1,
             join: len,
-        };
-    }
-    Gapped {
-        made: Element::EMPTY,
-        len: len,
-        join: 0,
+        },
+        None => Gapped {
+            made: Element::EMPTY,
+            len: len,
+            join: 0,
+        },
     }
 }

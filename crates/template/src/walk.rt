@@ -6,15 +6,15 @@ ghost use Rattle.template.specs.Lines.{LinesAre};
 ghost use Rattle.template.specs.Turn.{LookIs};
 ghost use Rattle.template.specs.Finish.{unfinished_at, RestIs, walk_listing, BufferedIs};
 
-use crate::compile::Answer;
 use crate::element::{Back, Element, Front, RawString, TemplateElement};
 use crate::frame::{Frame, Marks};
 use crate::list::{Waiting, deeper, has_else, link_behind, link_inside, write_element, write_end};
 use crate::reason::is_filling;
+use crate::refusal::{Reason, Refusal};
 use crate::turn::{
     Gapped, Joined, Open, Plan, Turn, join, less, plan_of, ref_chain_head, take_gap, turn_of,
 };
-use crate::visit::{Act, Here, Options, Step, View, Visit, visit_span};
+use crate::visit::{Act, Here, Options, Step, View, visit_span};
 use expression::parameter::AsName;
 use json_path::span::span_count;
 use listing::write::put_bytes;
@@ -31,7 +31,7 @@ pub(crate) fn look(
     v: View,
     at: usize,
     closing: bool,
-) -> Visit
+) -> Result<Option<Step>, Refusal>
     requires good { Good text.now words.now }
     requires lines { LinesAre text.now starts.now ends.now }
     ensures { LookIs text.now words.now o v at closing result }
@@ -39,15 +39,14 @@ pub(crate) fn look(
     if closing {
         let m = v.marks;
         let h = v.here;
-        return Visit::Step(Step {
-            gapped: false,
-            gap: Element::EMPTY,
+        return Ok(Some(Step {
+            gap: None,
             back: Back::Kept,
             act: Act::Skip,
             marks: m,
             here: h,
             next: at,
-        });
+        }));
     }
     visit_span(text, starts, ends, words, o, v, at)
 }
@@ -66,12 +65,15 @@ pub(crate) fn unfinished(text: &[u8], m: Marks, depth: usize) -> bool
     true
 }
 
-// The text after the last previous end.
-pub(crate) fn rest_of(text: &[u8], words: &[u32], m: Marks, h: Here) -> Element
+// The text after the last previous end, if there is any.
+pub(crate) fn rest_of(text: &[u8], words: &[u32], m: Marks, h: Here) -> Option<Element>
     ensures { RestIs text.now words.now m h result }
 {
+    if text.len() <= m.end_pos {
+        return None;
+    }
     let from = h.place;
-    Element::new(
+    Some(Element::new(
         TemplateElement::RawString(RawString {
             start: m.end_pos,
             end: text.len(),
@@ -80,7 +82,7 @@ pub(crate) fn rest_of(text: &[u8], words: &[u32], m: Marks, h: Here) -> Element
             back: Back::Kept,
         }),
         line_col(from, part(text, h.at, m.end_pos)),
-    )
+    ))
 }
 
 // Each turn: what is visited, the gap, the trim of the last text, the act. The store and the frames are
@@ -95,7 +97,7 @@ pub(crate) fn walk<const N: usize>(
     words: &[u32],
     o: Options,
     out: &mut [u8],
-) -> Answer
+) -> Result<usize, Refusal>
     requires good { Good text.now words.now }
     requires lines { LinesAre text.now starts.now ends.now }
     requires few { 2 * span_count words.now < N }
@@ -128,77 +130,72 @@ pub(crate) fn walk<const N: usize>(
             count: count,
             here: here,
         };
-        let seen = look(text, starts, ends, words, o, v, at, closing);
-        match seen {
-            Visit::Refused(r) => {
-                return Answer::Refused(r.number, r.place);
+        let Some(s) = look(text, starts, ends, words, o, v, at, closing)? else {
+            if unfinished(text, marks, depth) {
+                return Err(Refusal {
+                    reason: Reason::BadNesting,
+                    place: span_count(words),
+                });
             }
-            Visit::End => {
-                if unfinished(text, marks, depth) {
-                    return Answer::Refused(7, span_count(words));
-                }
-                break;
-            }
-            Visit::Step(s) => {
-                let ge = s.gap;
-                let g = take_gap(s.gapped, ge, len);
-                let made = g.made;
-                elements[len] = made;
-                len = g.len;
-                let gl = top.last;
-                let gx = elements[gl];
-                let gj = join(top, gx, g.join);
-                let gz = gj.last;
-                elements[gl] = gz;
-                top = gj.top;
-                let back = s.back;
-                let tl = top.last;
-                let tx = elements[tl];
-                elements[tl] = tx.trim_end(back);
-                let w = ref_chain_head(top.block, top.head);
-                let owner = elements[w];
-                let u = less(depth);
-                let below = levels[u];
-                let act = s.act;
-                let t = turn_of(closing, top.head, act);
-                let p = plan_of(
-                    t,
-                    Open {
-                        top: top,
-                        below: below,
-                        owner: owner,
-                        depth: depth,
-                        len: len,
-                        count: count,
-                    },
-                );
-                let pm = p.made;
-                elements[len] = pm;
-                let po = p.owner;
-                elements[w] = po;
-                let slot = p.slot;
-                let pp = p.put;
-                levels[slot] = pp;
-                let pt = p.top;
-                let pl = pt.last;
-                let px = elements[pl];
-                let pj = join(pt, px, p.join);
-                let pz = pj.last;
-                elements[pl] = pz;
-                top = pj.top;
-                depth = p.depth;
-                len = p.len;
-                count = p.count;
-                closing = p.closing;
-                marks = s.marks;
-                here = s.here;
-                at = s.next;
-            }
-        }
+            break;
+        };
+        let gap = s.gap;
+        let g = take_gap(gap, len);
+        let made = g.made;
+        elements[len] = made;
+        len = g.len;
+        let gl = top.last;
+        let gx = elements[gl];
+        let gj = join(top, gx, g.join);
+        let gz = gj.last;
+        elements[gl] = gz;
+        top = gj.top;
+        let back = s.back;
+        let tl = top.last;
+        let tx = elements[tl];
+        elements[tl] = tx.trim_end(back);
+        let w = ref_chain_head(top.block, top.head);
+        let owner = elements[w];
+        let u = less(depth);
+        let below = levels[u];
+        let act = s.act;
+        let t = turn_of(closing, top.head, act);
+        let p = plan_of(
+            t,
+            Open {
+                top: top,
+                below: below,
+                owner: owner,
+                depth: depth,
+                len: len,
+                count: count,
+            },
+        );
+        let pm = p.made;
+        elements[len] = pm;
+        let po = p.owner;
+        elements[w] = po;
+        let slot = p.slot;
+        let pp = p.put;
+        levels[slot] = pp;
+        let pt = p.top;
+        let pl = pt.last;
+        let px = elements[pl];
+        let pj = join(pt, px, p.join);
+        let pz = pj.last;
+        elements[pl] = pz;
+        top = pj.top;
+        depth = p.depth;
+        len = p.len;
+        count = p.count;
+        closing = p.closing;
+        marks = s.marks;
+        here = s.here;
+        at = s.next;
     }
     // The text that is left.
     let rest = rest_of(text, words, marks, here);
-    let rg = take_gap(marks.end_pos < text.len(), rest, len);
+    let rg = take_gap(rest, len);
     let rm = rg.made;
     elements[len] = rm;
     let rl = top.last;
@@ -231,7 +228,7 @@ pub(crate) fn walk<const N: usize>(
             waits = deeper(waits, more);
             link = link_behind(e, more);
         } else {
-            return Answer::Listed(put_bytes(out, p, b"]\n"));
+            return Ok(put_bytes(out, p, b"]\n"));
         }
     }
 }
