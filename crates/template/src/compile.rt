@@ -87,20 +87,19 @@ pub fn compile2(text: &[u8], spans: &[u32], options: u32, out: &mut [u8]) -> Ans
                 prevent_indent: options % 2 == 1,
                 is_partial: options / 2 % 2 == 1,
             };
-            let count = span_count(spans);
-            if Element::SMALL <= 2 * count {
-                return compile_in::<{ Marks::LINES }, { Element::LIMIT }, { Answer::LARGE }>(
+            if Element::SMALL <= 2 * span_count(spans) {
+                compile_in::<{ Marks::LINES }, { Element::LIMIT }, { Answer::LARGE }>(
                     text, spans, o, out,
-                );
-            }
-            if Marks::SHORT < text.len() {
-                return compile_in::<{ Marks::LINES }, { Element::SMALL }, { Answer::FEW }>(
+                )
+            } else if Marks::SHORT < text.len() {
+                compile_in::<{ Marks::LINES }, { Element::SMALL }, { Answer::FEW }>(
                     text, spans, o, out,
-                );
+                )
+            } else {
+                compile_in::<{ Marks::SHORT_LINES }, { Element::SMALL }, { Answer::SMALL }>(
+                    text, spans, o, out,
+                )
             }
-            compile_in::<{ Marks::SHORT_LINES }, { Element::SMALL }, { Answer::SMALL }>(
-                text, spans, o, out,
-            )
         }
     }
 }
