@@ -13,7 +13,6 @@ use Rattle.template.specs.declared.visit.Act.{Act}
 use Rattle.template.specs.declared.visit.Act.TheVariants as A
 use Rattle.template.specs.declared.visit.Added.{Added}
 use Rattle.template.specs.declared.visit.Added.TheVariants as N
-use Rattle.template.specs.declared.turn.ChainHead.{ChainHead}
 use Rattle.template.specs.declared.visit.Options.{Options}
 use Rattle.template.specs.declared.visit.View.{View}
 use Rattle.template.specs.declared.visit.Step.{Step}
@@ -27,10 +26,6 @@ use Rattle.template.specs.declared.turn.Gapped.{Gapped}
 -- the root's body, with nothing in it
 abbrev pub empty_frame : Frame
 empty_frame = record { opened = O.Root; block = 0; head = 0; first = 0; last = 0; chain = false; inverted = false }
-
--- the newest else-if node, if there is one
-unfoldable pub head_of : ℕ → ChainHead
-head_of n = if (eqb n 0) ChainHead.None (ChainHead.Node n)
 
 -- the element that the open body belongs to: the newest else-if node, or the block
 unfoldable pub ref_chain_head : ℕ → ℕ → ℕ

@@ -72,18 +72,17 @@ pub fn compile2(text: &[u8], spans: &[u32], options: u32, out: &mut [u8]) -> Res
     ensures { AnswerIs (answer text.now spans.now options (length out.old)) out.old out.new result }
 {
     let o = checks(text, spans, options)?;
-    let count = span_count(spans);
-    if Element::SMALL <= 2 * count {
-        return compile_in::<{ Marks::LINES }, { Element::LIMIT }, { Element::LARGE_ROOM }>(
+    if Element::SMALL <= 2 * span_count(spans) {
+        compile_in::<{ Marks::LINES }, { Element::LIMIT }, { Element::LARGE_ROOM }>(
             text, spans, o, out,
-        );
-    }
-    if Marks::SHORT < text.len() {
-        return compile_in::<{ Marks::LINES }, { Element::SMALL }, { Element::FEW_ROOM }>(
+        )
+    } else if Marks::SHORT < text.len() {
+        compile_in::<{ Marks::LINES }, { Element::SMALL }, { Element::FEW_ROOM }>(
             text, spans, o, out,
-        );
+        )
+    } else {
+        compile_in::<{ Marks::SHORT_LINES }, { Element::SMALL }, { Element::SMALL_ROOM }>(
+            text, spans, o, out,
+        )
     }
-    compile_in::<{ Marks::SHORT_LINES }, { Element::SMALL }, { Element::SMALL_ROOM }>(
-        text, spans, o, out,
-    )
 }

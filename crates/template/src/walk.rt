@@ -12,7 +12,7 @@ use crate::list::{Waiting, deeper, has_else, link_behind, link_inside, write_ele
 use crate::reason::is_filling;
 use crate::refusal::{Reason, Refusal};
 use crate::turn::{
-    Gapped, Joined, Open, Plan, Turn, join, less, plan_of, ref_chain_head, take_gap, turn_of,
+    Gapped, Joined, Open, Plan, Turn, join, plan_of, ref_chain_head, take_gap, turn_of,
 };
 use crate::visit::{Act, Here, Options, Step, View, visit_span};
 use expression::parameter::AsName;
@@ -156,7 +156,7 @@ pub(crate) fn walk<const N: usize>(
         elements[tl] = tx.trim_end(back);
         let w = ref_chain_head(top.block, top.head);
         let owner = elements[w];
-        let u = less(depth);
+        let u = depth.saturating_sub(1);
         let below = levels[u];
         let act = s.act;
         let t = turn_of(closing, top.head, act);

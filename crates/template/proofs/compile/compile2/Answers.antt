@@ -5,11 +5,11 @@ use Rattle.template.proofs.compile.compile2.Goals as goal
 pub returns-in-Refused : goal.returns-in-Refused
 returns-in-Refused c = compiles.turned_away c.checks-c.ensures c.args.out.now c.in-Refused.is
 
-pub returns-then-count-ge-SMALL : goal.returns-then-count-ge-SMALL
-returns-then-count-ge-SMALL c = compiles.walked c.checks-c.ensures c.in-Good.is c.compile_in.ensures
+pub returns-then-span_count-ge-SMALL : goal.returns-then-span_count-ge-SMALL
+returns-then-span_count-ge-SMALL c = compiles.walked c.checks-c.ensures c.in-Good.is c.compile_in.ensures
 
 pub returns-then-text-gt-SHORT : goal.returns-then-text-gt-SHORT
 returns-then-text-gt-SHORT c = compiles.walked c.checks-c.ensures c.in-Good.is c.compile_in-then-text-gt-SHORT.ensures
 
 pub returns-else-text-gt-SHORT : goal.returns-else-text-gt-SHORT
-returns-else-text-gt-SHORT c = compiles.walked c.checks-c.ensures c.in-Good.is c.compile_in-in-Good.ensures
+returns-else-text-gt-SHORT c = compiles.walked c.checks-c.ensures c.in-Good.is c.compile_in-else-text-gt-SHORT.ensures

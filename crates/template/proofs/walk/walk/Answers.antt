@@ -97,14 +97,14 @@ offset_bounds-levels-u g c =
     let gaps : Gaps c.loop-r.invariant c.in-Step.s c.take_gap-g.result = record { goes = stages.look_goes c.loop-r.invariant c.name-name.ensures c.look-seen.ensures _ c.in-Step.is; made = c.take_gap-g.ensures } in
     let joins : Joins c.loop-r.invariant c.in-Step.s c.take_gap-g.result c.join-gj.result = record { gaps = gaps; joined = c.join-gj.ensures } in
     let trims : Trims c.loop-r.invariant c.in-Step.s c.take_gap-g.result c.join-gj.result c.trim_end.result = record { joins = joins; trims = c.trim_end.ensures } in
-    omega (arith, (loop.caps trims).0, c.less-u.ensures)
+    omega (arith, (loop.caps trims).0, c.saturating_sub-u.ensures)
 
 pub bounds-levels-u : goal.bounds-levels-u
 bounds-levels-u g c =
     let gaps : Gaps c.loop-r.invariant c.in-Step.s c.take_gap-g.result = record { goes = stages.look_goes c.loop-r.invariant c.name-name.ensures c.look-seen.ensures _ c.in-Step.is; made = c.take_gap-g.ensures } in
     let joins : Joins c.loop-r.invariant c.in-Step.s c.take_gap-g.result c.join-gj.result = record { gaps = gaps; joined = c.join-gj.ensures } in
     let trims : Trims c.loop-r.invariant c.in-Step.s c.take_gap-g.result c.join-gj.result c.trim_end.result = record { joins = joins; trims = c.trim_end.ensures } in
-    omega (arith, (loop.caps trims).0, c.less-u.ensures)
+    omega (arith, (loop.caps trims).0, c.saturating_sub-u.ensures)
 
 pub plan_of-p-requires : goal.plan_of-p-requires
 plan_of-p-requires g c =
@@ -142,7 +142,7 @@ offset_bounds-levels-slot g c =
     let gaps : Gaps c.loop-r.invariant c.in-Step.s c.take_gap-g.result = record { goes = stages.look_goes c.loop-r.invariant c.name-name.ensures c.look-seen.ensures _ c.in-Step.is; made = c.take_gap-g.ensures } in
     let joins : Joins c.loop-r.invariant c.in-Step.s c.take_gap-g.result c.join-gj.result = record { gaps = gaps; joined = c.join-gj.ensures } in
     let trims : Trims c.loop-r.invariant c.in-Step.s c.take_gap-g.result c.join-gj.result c.trim_end.result = record { joins = joins; trims = c.trim_end.ensures } in
-    let plans : Plans c.loop-r.invariant c.in-Step.s c.take_gap-g.result c.join-gj.result c.trim_end.result c.ref_chain_head-w.result c.less-u.result c.turn_of-t.result c.plan_of-p.result = record { ready = trims; owner = c.ref_chain_head-w.ensures; below = c.less-u.ensures; turns = c.turn_of-t.ensures; plan = c.plan_of-p.ensures } in
+    let plans : Plans c.loop-r.invariant c.in-Step.s c.take_gap-g.result c.join-gj.result c.trim_end.result c.ref_chain_head-w.result c.saturating_sub-u.result c.turn_of-t.result c.plan_of-p.result = record { ready = trims; owner = c.ref_chain_head-w.ensures; below = c.saturating_sub-u.ensures; turns = c.turn_of-t.ensures; plan = c.plan_of-p.ensures } in
     omega (arith, loop.slot_near plans)
 
 pub bounds-levels-slot : goal.bounds-levels-slot
@@ -150,7 +150,7 @@ bounds-levels-slot g c =
     let gaps : Gaps c.loop-r.invariant c.in-Step.s c.take_gap-g.result = record { goes = stages.look_goes c.loop-r.invariant c.name-name.ensures c.look-seen.ensures _ c.in-Step.is; made = c.take_gap-g.ensures } in
     let joins : Joins c.loop-r.invariant c.in-Step.s c.take_gap-g.result c.join-gj.result = record { gaps = gaps; joined = c.join-gj.ensures } in
     let trims : Trims c.loop-r.invariant c.in-Step.s c.take_gap-g.result c.join-gj.result c.trim_end.result = record { joins = joins; trims = c.trim_end.ensures } in
-    let plans : Plans c.loop-r.invariant c.in-Step.s c.take_gap-g.result c.join-gj.result c.trim_end.result c.ref_chain_head-w.result c.less-u.result c.turn_of-t.result c.plan_of-p.result = record { ready = trims; owner = c.ref_chain_head-w.ensures; below = c.less-u.ensures; turns = c.turn_of-t.ensures; plan = c.plan_of-p.ensures } in
+    let plans : Plans c.loop-r.invariant c.in-Step.s c.take_gap-g.result c.join-gj.result c.trim_end.result c.ref_chain_head-w.result c.saturating_sub-u.result c.turn_of-t.result c.plan_of-p.result = record { ready = trims; owner = c.ref_chain_head-w.ensures; below = c.saturating_sub-u.ensures; turns = c.turn_of-t.ensures; plan = c.plan_of-p.ensures } in
     loop.slot_near plans
 
 pub offset_bounds-elements-pl : goal.offset_bounds-elements-pl
@@ -158,7 +158,7 @@ offset_bounds-elements-pl g c =
     let gaps : Gaps c.loop-r.invariant c.in-Step.s c.take_gap-g.result = record { goes = stages.look_goes c.loop-r.invariant c.name-name.ensures c.look-seen.ensures _ c.in-Step.is; made = c.take_gap-g.ensures } in
     let joins : Joins c.loop-r.invariant c.in-Step.s c.take_gap-g.result c.join-gj.result = record { gaps = gaps; joined = c.join-gj.ensures } in
     let trims : Trims c.loop-r.invariant c.in-Step.s c.take_gap-g.result c.join-gj.result c.trim_end.result = record { joins = joins; trims = c.trim_end.ensures } in
-    let plans : Plans c.loop-r.invariant c.in-Step.s c.take_gap-g.result c.join-gj.result c.trim_end.result c.ref_chain_head-w.result c.less-u.result c.turn_of-t.result c.plan_of-p.result = record { ready = trims; owner = c.ref_chain_head-w.ensures; below = c.less-u.ensures; turns = c.turn_of-t.ensures; plan = c.plan_of-p.ensures } in
+    let plans : Plans c.loop-r.invariant c.in-Step.s c.take_gap-g.result c.join-gj.result c.trim_end.result c.ref_chain_head-w.result c.saturating_sub-u.result c.turn_of-t.result c.plan_of-p.result = record { ready = trims; owner = c.ref_chain_head-w.ensures; below = c.saturating_sub-u.ensures; turns = c.turn_of-t.ensures; plan = c.plan_of-p.ensures } in
     omega (arith, loop.planned_last plans)
 
 pub bounds-elements-pl : goal.bounds-elements-pl
@@ -166,7 +166,7 @@ bounds-elements-pl g c =
     let gaps : Gaps c.loop-r.invariant c.in-Step.s c.take_gap-g.result = record { goes = stages.look_goes c.loop-r.invariant c.name-name.ensures c.look-seen.ensures _ c.in-Step.is; made = c.take_gap-g.ensures } in
     let joins : Joins c.loop-r.invariant c.in-Step.s c.take_gap-g.result c.join-gj.result = record { gaps = gaps; joined = c.join-gj.ensures } in
     let trims : Trims c.loop-r.invariant c.in-Step.s c.take_gap-g.result c.join-gj.result c.trim_end.result = record { joins = joins; trims = c.trim_end.ensures } in
-    let plans : Plans c.loop-r.invariant c.in-Step.s c.take_gap-g.result c.join-gj.result c.trim_end.result c.ref_chain_head-w.result c.less-u.result c.turn_of-t.result c.plan_of-p.result = record { ready = trims; owner = c.ref_chain_head-w.ensures; below = c.less-u.ensures; turns = c.turn_of-t.ensures; plan = c.plan_of-p.ensures } in
+    let plans : Plans c.loop-r.invariant c.in-Step.s c.take_gap-g.result c.join-gj.result c.trim_end.result c.ref_chain_head-w.result c.saturating_sub-u.result c.turn_of-t.result c.plan_of-p.result = record { ready = trims; owner = c.ref_chain_head-w.ensures; below = c.saturating_sub-u.ensures; turns = c.turn_of-t.ensures; plan = c.plan_of-p.ensures } in
     loop.planned_last plans
 
 pub offset_bounds-elements-pl-in-Step : goal.offset_bounds-elements-pl-in-Step
@@ -174,7 +174,7 @@ offset_bounds-elements-pl-in-Step g c =
     let gaps : Gaps c.loop-r.invariant c.in-Step.s c.take_gap-g.result = record { goes = stages.look_goes c.loop-r.invariant c.name-name.ensures c.look-seen.ensures _ c.in-Step.is; made = c.take_gap-g.ensures } in
     let joins : Joins c.loop-r.invariant c.in-Step.s c.take_gap-g.result c.join-gj.result = record { gaps = gaps; joined = c.join-gj.ensures } in
     let trims : Trims c.loop-r.invariant c.in-Step.s c.take_gap-g.result c.join-gj.result c.trim_end.result = record { joins = joins; trims = c.trim_end.ensures } in
-    let plans : Plans c.loop-r.invariant c.in-Step.s c.take_gap-g.result c.join-gj.result c.trim_end.result c.ref_chain_head-w.result c.less-u.result c.turn_of-t.result c.plan_of-p.result = record { ready = trims; owner = c.ref_chain_head-w.ensures; below = c.less-u.ensures; turns = c.turn_of-t.ensures; plan = c.plan_of-p.ensures } in
+    let plans : Plans c.loop-r.invariant c.in-Step.s c.take_gap-g.result c.join-gj.result c.trim_end.result c.ref_chain_head-w.result c.saturating_sub-u.result c.turn_of-t.result c.plan_of-p.result = record { ready = trims; owner = c.ref_chain_head-w.ensures; below = c.saturating_sub-u.ensures; turns = c.turn_of-t.ensures; plan = c.plan_of-p.ensures } in
     omega (arith, loop.planned_last plans)
 
 pub bounds-elements-pl-in-Step : goal.bounds-elements-pl-in-Step
@@ -182,7 +182,7 @@ bounds-elements-pl-in-Step g c =
     let gaps : Gaps c.loop-r.invariant c.in-Step.s c.take_gap-g.result = record { goes = stages.look_goes c.loop-r.invariant c.name-name.ensures c.look-seen.ensures _ c.in-Step.is; made = c.take_gap-g.ensures } in
     let joins : Joins c.loop-r.invariant c.in-Step.s c.take_gap-g.result c.join-gj.result = record { gaps = gaps; joined = c.join-gj.ensures } in
     let trims : Trims c.loop-r.invariant c.in-Step.s c.take_gap-g.result c.join-gj.result c.trim_end.result = record { joins = joins; trims = c.trim_end.ensures } in
-    let plans : Plans c.loop-r.invariant c.in-Step.s c.take_gap-g.result c.join-gj.result c.trim_end.result c.ref_chain_head-w.result c.less-u.result c.turn_of-t.result c.plan_of-p.result = record { ready = trims; owner = c.ref_chain_head-w.ensures; below = c.less-u.ensures; turns = c.turn_of-t.ensures; plan = c.plan_of-p.ensures } in
+    let plans : Plans c.loop-r.invariant c.in-Step.s c.take_gap-g.result c.join-gj.result c.trim_end.result c.ref_chain_head-w.result c.saturating_sub-u.result c.turn_of-t.result c.plan_of-p.result = record { ready = trims; owner = c.ref_chain_head-w.ensures; below = c.saturating_sub-u.ensures; turns = c.turn_of-t.ensures; plan = c.plan_of-p.ensures } in
     loop.planned_last plans
 
 pub loop-r-smaller : goal.loop-r-smaller
@@ -190,7 +190,7 @@ loop-r-smaller g c =
     let gaps : Gaps c.loop-r.invariant c.in-Step.s c.take_gap-g.result = record { goes = stages.look_goes c.loop-r.invariant c.name-name.ensures c.look-seen.ensures _ c.in-Step.is; made = c.take_gap-g.ensures } in
     let joins : Joins c.loop-r.invariant c.in-Step.s c.take_gap-g.result c.join-gj.result = record { gaps = gaps; joined = c.join-gj.ensures } in
     let trims : Trims c.loop-r.invariant c.in-Step.s c.take_gap-g.result c.join-gj.result c.trim_end.result = record { joins = joins; trims = c.trim_end.ensures } in
-    let plans : Plans c.loop-r.invariant c.in-Step.s c.take_gap-g.result c.join-gj.result c.trim_end.result c.ref_chain_head-w.result c.less-u.result c.turn_of-t.result c.plan_of-p.result = record { ready = trims; owner = c.ref_chain_head-w.ensures; below = c.less-u.ensures; turns = c.turn_of-t.ensures; plan = c.plan_of-p.ensures } in
+    let plans : Plans c.loop-r.invariant c.in-Step.s c.take_gap-g.result c.join-gj.result c.trim_end.result c.ref_chain_head-w.result c.saturating_sub-u.result c.turn_of-t.result c.plan_of-p.result = record { ready = trims; owner = c.ref_chain_head-w.ensures; below = c.saturating_sub-u.ensures; turns = c.turn_of-t.ensures; plan = c.plan_of-p.ensures } in
     loop.less plans
 
 pub loop-r-preserved : goal.loop-r-preserved
@@ -198,7 +198,7 @@ loop-r-preserved g c =
     let gaps : Gaps c.loop-r.invariant c.in-Step.s c.take_gap-g.result = record { goes = stages.look_goes c.loop-r.invariant c.name-name.ensures c.look-seen.ensures _ c.in-Step.is; made = c.take_gap-g.ensures } in
     let joins : Joins c.loop-r.invariant c.in-Step.s c.take_gap-g.result c.join-gj.result = record { gaps = gaps; joined = c.join-gj.ensures } in
     let trims : Trims c.loop-r.invariant c.in-Step.s c.take_gap-g.result c.join-gj.result c.trim_end.result = record { joins = joins; trims = c.trim_end.ensures } in
-    let plans : Plans c.loop-r.invariant c.in-Step.s c.take_gap-g.result c.join-gj.result c.trim_end.result c.ref_chain_head-w.result c.less-u.result c.turn_of-t.result c.plan_of-p.result = record { ready = trims; owner = c.ref_chain_head-w.ensures; below = c.less-u.ensures; turns = c.turn_of-t.ensures; plan = c.plan_of-p.ensures } in
+    let plans : Plans c.loop-r.invariant c.in-Step.s c.take_gap-g.result c.join-gj.result c.trim_end.result c.ref_chain_head-w.result c.saturating_sub-u.result c.turn_of-t.result c.plan_of-p.result = record { ready = trims; owner = c.ref_chain_head-w.ensures; below = c.saturating_sub-u.ensures; turns = c.turn_of-t.ensures; plan = c.plan_of-p.ensures } in
     loop.next_held plans c.join-pj.ensures
 
 pub take_gap-rg-requires : goal.take_gap-rg-requires
