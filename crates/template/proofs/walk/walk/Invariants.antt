@@ -7,11 +7,11 @@ use Rattle.template.proofs.Lister as lister
 use Rattle.template.proofs.Pass as pass
 use Rattle.template.proofs.walk.walk.Given as goal
 
-abbrev pub invariant-loop-r : goal.invariant-loop-r
-invariant-loop-r g l = Held l.text l.words l.o g.row.N l.elements l.levels l.top l.marks l.here l.depth l.len l.count l.closing l.at
+abbrev pub invariant-loop-s : goal.invariant-loop-s
+invariant-loop-s g l = Held l.text l.words l.o g.row.N l.elements l.levels l.top l.marks l.here l.depth l.len l.count l.closing l.at
 
-abbrev pub decreases-loop-r : goal.decreases-loop-r
-decreases-loop-r g l = 2 * (span_count l.words - l.at) + l.count
+abbrev pub decreases-loop-s : goal.decreases-loop-s
+decreases-loop-s g l = 2 * (span_count l.words - l.at) + l.count
 
 abbrev pub invariant-loop-link : goal.invariant-loop-link
 invariant-loop-link g l = pass.Pass l.text l.words l.elements l.initial.link g.row.N l.initial.out l.initial.p l.out l.waiting l.p l.link l.waits
