@@ -9,6 +9,7 @@ mod list;
 mod raw;
 mod reason;
 mod tag;
+mod tree;
 mod turn;
 mod visit;
 mod walk;
