@@ -10,6 +10,7 @@ mod raw;
 mod reason;
 pub mod refusal;
 mod tag;
+mod tree;
 mod turn;
 mod visit;
 mod walk;

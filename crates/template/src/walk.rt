@@ -8,16 +8,15 @@ ghost use Rattle.template.specs.Finish.{unfinished_at, RestIs, walk_listing, Buf
 
 use crate::element::{Back, Element, Front, RawString, TemplateElement};
 use crate::frame::{Frame, Marks};
-use crate::list::{Waiting, deeper, has_else, link_behind, link_inside, write_element, write_end};
 use crate::reason::is_filling;
 use crate::refusal::{Reason, Refusal};
+use crate::tree::write_tree;
 use crate::turn::{
     Gapped, Joined, Open, Plan, Turn, join, plan_of, ref_chain_head, take_gap, turn_of,
 };
 use crate::visit::{Act, Here, Options, Step, View, visit_span};
 use expression::parameter::AsName;
 use json_path::span::span_count;
-use listing::write::put_bytes;
 use support::bytes::part;
 use support::position::{Place, line_col};
 
@@ -87,9 +86,8 @@ pub(crate) fn rest_of(text: &[u8], words: &[u32], m: Marks, h: Here) -> Option<E
 
 // Each turn: what is visited, the gap, the trim of the last text, the act. The store and the frames are
 // written at every turn, with what was there where nothing changes. At the end of the list the text that is
-// left joins the root's body. Then the tree is listed: from element to element, and back to the block that
-// waits where a body ends. What the output has no room for is only counted. `N` is how many elements the
-// store has: to fill a large one takes longer than the work on a small card.
+// left joins the root's body, and the tree is listed. `N` is how many elements the store has: to fill a large
+// one takes longer than the work on a small card.
 pub(crate) fn walk<const N: usize>(
     text: &[u8],
     starts: &[bool],
@@ -203,32 +201,5 @@ pub(crate) fn walk<const N: usize>(
     let rj = join(top, rx, rg.join);
     let rz = rj.last;
     elements[rl] = rz;
-    let rt = rj.top;
-    // The listing.
-    let mut waiting = [Waiting::EMPTY; N];
-    let mut p = put_bytes(out, 0, b"[template\n");
-    let mut link = rt.first;
-    let mut waits: usize = 0;
-    loop {
-        if link > 0 {
-            let e = elements[link];
-            let more = e.has_body();
-            p = write_element(out, p, text, words, e);
-            waiting[waits] = Waiting::new(link, false);
-            waits = deeper(waits, more);
-            link = link_inside(e, more);
-        } else if waits > 0 {
-            waits -= 1;
-            let w = waiting[waits];
-            let b = w.block;
-            let e = elements[b];
-            let more = has_else(e, w);
-            p = write_end(out, p, more);
-            waiting[waits] = Waiting::new(b, true);
-            waits = deeper(waits, more);
-            link = link_behind(e, more);
-        } else {
-            return Ok(put_bytes(out, p, b"]\n"));
-        }
-    }
+    Ok(write_tree(out, text, words, &elements, rj.top.first))
 }

@@ -1,15 +1,12 @@
--- The first loop keeps what proofs/Loop says, by the stages of a turn; the answer is what proofs/WalkStages says of a visit, or what proofs/Finishing
--- says of the end of the list. The second loop keeps what proofs/Pass says. Assumes nothing.
+-- The loop keeps what proofs/Loop says, by the stages of a turn; the answer is what proofs/WalkStages says of a visit, or what proofs/Finishing
+-- says of the end of the list. Assumes nothing.
 use native.Mathlib.Omega.{arith}
 use mathlib.Core.Path.{refl, ap, sym, ◌∙◌}
-use Rattle.listing.proofs.Writes.{written_length}
 use Rattle.template.specs.Result.{refused}
 use Rattle.template.proofs.Loop.{Gaps, Joins, Trims, Plans}
 use Rattle.template.proofs.Loop as loop
 use Rattle.template.proofs.Finishing.{Rested}
 use Rattle.template.proofs.Finishing as finishing
-use Rattle.template.proofs.Pass as pass
-use Rattle.template.proofs.ElementWrites.{bytes_are}
 use Rattle.template.proofs.WalkEnds as ends
 use Rattle.template.proofs.WalkStages as stages
 use Rattle.template.proofs.walk.walk.Goals as goal
@@ -222,73 +219,12 @@ offset_bounds-elements-rl-2 g c = omega (arith, loop.last_in c.loop-r.invariant)
 pub bounds-elements-rl-2 : goal.bounds-elements-rl-2
 bounds-elements-rl-2 g c = loop.last_in c.loop-r.invariant
 
-pub loop-link-init : goal.loop-link-init
-loop-link-init g c =
+pub write_tree-requires : goal.write_tree-requires
+write_tree-requires g c =
     let rested : Rested c.args.text.now c.args.words.now c.args.o c.loop-r.elements c.loop-r.top c.loop-r.len c.loop-r.marks c.loop-r.here c.rest_of-rest.result c.take_gap-rg.result c.join-rj.result = record { good = c.requires.good; end = stages.look_ended c.loop-r.invariant c.name-name.ensures c.look-seen.ensures c.requires.good c.in-End.is c.unfinished.ensures c.if-unfinished.false; is = c.rest_of-rest.ensures; gap = c.take_gap-rg.ensures; joined = c.join-rj.ensures } in
-    let line = c.put_bytes-p.ensures in
-    let end = rested in
-    pass.starts _ _ _ _ g.row.N (finishing.ended_long end ∙ c.loop-r.invariant.kept.long) c.requires.size.1 (record { body = _; holds = finishing.ended_holds end })
-    (omega (arith, c.well_formed.1.1.1.1.1.0, written_length line)) (omega (arith, line.next))
+    (omega (arith, c.requires.size.1), (c.requires.good, (c.requires.size.1, record { body = _; holds = finishing.ended_holds rested })))
 
-pub offset_bounds-elements-link : goal.offset_bounds-elements-link
-offset_bounds-elements-link g c = omega (arith, pass.element_in c.loop-link.invariant c.if-link-gt0.true)
-
-pub bounds-elements-link : goal.bounds-elements-link
-bounds-elements-link g c = pass.element_in c.loop-link.invariant c.if-link-gt0.true
-
-pub write_element-p-requires : goal.write_element-p-requires
-write_element-p-requires g c = (c.requires.good, pass.element_good c.loop-link.invariant c.if-link-gt0.true)
-
-pub offset_bounds-waiting-waits : goal.offset_bounds-waiting-waits
-offset_bounds-waiting-waits g c = omega (arith, pass.depth_in c.loop-link.invariant c.if-link-gt0.true)
-
-pub bounds-waiting-waits : goal.bounds-waiting-waits
-bounds-waiting-waits g c = pass.depth_in c.loop-link.invariant c.if-link-gt0.true
-
-pub deeper-waits-requires : goal.deeper-waits-requires
-deeper-waits-requires g c = omega (arith, pass.depth_in c.loop-link.invariant c.if-link-gt0.true)
-
-pub loop-link-smaller-then-link-gt0 : goal.loop-link-smaller-then-link-gt0
-loop-link-smaller-then-link-gt0 g c =
-    (pass.element_turned c.loop-link.invariant c.if-link-gt0.true c.has_body-more.ensures c.new.ensures c.link_inside-link.ensures c.deeper-waits.ensures c.write_element-p.ensures.1 c.write_element-p.ensures.0).less
-
-pub loop-link-preserved-then-link-gt0 : goal.loop-link-preserved-then-link-gt0
-loop-link-preserved-then-link-gt0 g c =
-    (pass.element_turned c.loop-link.invariant c.if-link-gt0.true c.has_body-more.ensures c.new.ensures c.link_inside-link.ensures c.deeper-waits.ensures c.write_element-p.ensures.1 c.write_element-p.ensures.0).pass
-
-pub offset_bounds-waiting-waits-then-waits-gt0 : goal.offset_bounds-waiting-waits-then-waits-gt0
-offset_bounds-waiting-waits-then-waits-gt0 g c = omega (arith, pass.entry_in c.loop-link.invariant c.if-link-gt0.false c.if-waits-gt0.true)
-
-pub bounds-waiting-waits-then-waits-gt0 : goal.bounds-waiting-waits-then-waits-gt0
-bounds-waiting-waits-then-waits-gt0 g c = pass.entry_in c.loop-link.invariant c.if-link-gt0.false c.if-waits-gt0.true
-
-pub offset_bounds-elements-b-then-waits-gt0 : goal.offset_bounds-elements-b-then-waits-gt0
-offset_bounds-elements-b-then-waits-gt0 g c = omega (arith, pass.block_in c.loop-link.invariant c.if-link-gt0.false c.if-waits-gt0.true)
-
-pub bounds-elements-b-then-waits-gt0 : goal.bounds-elements-b-then-waits-gt0
-bounds-elements-b-then-waits-gt0 g c = pass.block_in c.loop-link.invariant c.if-link-gt0.false c.if-waits-gt0.true
-
-pub offset_bounds-waiting-waits-then-waits-gt0-2 : goal.offset_bounds-waiting-waits-then-waits-gt0-2
-offset_bounds-waiting-waits-then-waits-gt0-2 g c = omega (arith, pass.entry_in c.loop-link.invariant c.if-link-gt0.false c.if-waits-gt0.true)
-
-pub bounds-waiting-waits-then-waits-gt0-2 : goal.bounds-waiting-waits-then-waits-gt0-2
-bounds-waiting-waits-then-waits-gt0-2 g c = pass.entry_in c.loop-link.invariant c.if-link-gt0.false c.if-waits-gt0.true
-
-pub deeper-waits-requires-then-waits-gt0 : goal.deeper-waits-requires-then-waits-gt0
-deeper-waits-requires-then-waits-gt0 g c = omega (arith, pass.entry_in c.loop-link.invariant c.if-link-gt0.false c.if-waits-gt0.true)
-
-pub loop-link-smaller : goal.loop-link-smaller
-loop-link-smaller g c =
-    (pass.back_turned c.loop-link.invariant c.if-link-gt0.false c.if-waits-gt0.true c.has_else-more.ensures c.new-then-waits-gt0.ensures c.link_behind-link.ensures c.deeper-waits-then-waits-gt0.ensures c.write_end-p.ensures).less
-
-pub loop-link-preserved : goal.loop-link-preserved
-loop-link-preserved g c =
-    (pass.back_turned c.loop-link.invariant c.if-link-gt0.false c.if-waits-gt0.true c.has_else-more.ensures c.new-then-waits-gt0.ensures c.link_behind-link.ensures c.deeper-waits-then-waits-gt0.ensures c.write_end-p.ensures).pass
-
-pub shape_of-out-else-waits-gt0 : goal.shape_of-out-else-waits-gt0
-shape_of-out-else-waits-gt0 g c = pass.same_length c.loop-link.invariant (bytes_are refl c.put_bytes-p.ensures) c.if-link-gt0.false c.if-waits-gt0.false refl c.put_bytes.ensures
-
-pub returns-else-waits-gt0 : goal.returns-else-waits-gt0
-returns-else-waits-gt0 g c =
+pub returns : goal.returns
+returns g c =
     let rested : Rested c.args.text.now c.args.words.now c.args.o c.loop-r.elements c.loop-r.top c.loop-r.len c.loop-r.marks c.loop-r.here c.rest_of-rest.result c.take_gap-rg.result c.join-rj.result = record { good = c.requires.good; end = stages.look_ended c.loop-r.invariant c.name-name.ensures c.look-seen.ensures c.requires.good c.in-End.is c.unfinished.ensures c.if-unfinished.false; is = c.rest_of-rest.ensures; gap = c.take_gap-rg.ensures; joined = c.join-rj.ensures } in
-    finishing.ended_answer rested (pass.below c.loop-link.invariant (bytes_are refl c.put_bytes-p.ensures) c.if-link-gt0.false c.if-waits-gt0.false refl c.put_bytes.ensures) (pass.lists c.loop-link.invariant (bytes_are refl c.put_bytes-p.ensures) c.if-link-gt0.false c.if-waits-gt0.false refl c.put_bytes.ensures)
+    finishing.ended_answer rested c.write_tree.ensures.short c.write_tree.ensures.lists
