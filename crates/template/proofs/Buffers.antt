@@ -17,7 +17,7 @@ use Rattle.template.specs.Result.{Result, refused, accepted, and_then}
 use Rattle.template.specs.Walk.{read_spans}
 use Rattle.template.specs.Compile.{fit}
 use Rattle.template.specs.Answers.{AnswerIs}
-use Rattle.template.specs.Finish.{walk_listing, walk_answer, Buffers, BufferedMeans, BufferedIs}
+use Rattle.template.specs.Finish.{walk_listing, walk_answer, BufferedMeans, BufferedIs}
 use Rattle.template.specs.declared.refusal.Reason.TheVariants as R
 use Rattle.template.specs.declared.refusal.Refusal.{Refusal}
 use Rattle.template.specs.declared.visit.Options.{Options}
@@ -51,14 +51,14 @@ module _ (text : Bytes) (words : List ℕ) (o : Options) {l m : Bytes} where
   turned_away out made = record { means = (fitted text words o (length out) made.means.0, refl) }
 
   module _ {out : Bytes} {n : ℕ} (made : BufferedIs (walk_listing text words o) l m (Ok n)) where
-    abbrev b : Buffers (walk_listing text words o) l m n
-    b = made.means
-
     pub too_long : length out < n → AnswerIs (walk_answer text words o (length out)) out out (Err (record { reason = R.ListingTooLong; place = n }))
-    too_long h = record { means = (fitted text words o (length out) b.answer ∙ too_big b.bytes (length out) (omega (arith, b.count)) ∙ ap (refused 14) (sym b.count), refl) }
+    too_long h =
+        let b = made.means in
+        record { means = (fitted text words o (length out) b.answer ∙ too_big b.bytes (length out) (omega (arith, b.count)) ∙ ap (refused 14) (sym b.count), refl) }
 
     pub handed_over : {k : Bytes} → n ≤ length out → n ≤ length l → k ≡ take n m → AnswerIs (walk_answer text words o (length out)) out (k ++ drop n out) (Ok n)
     handed_over h g c =
+        let b = made.means in
         let whole : take n m ≡ b.bytes =
         ap (take n) (b.stored ∙ stored_whole b.bytes l (omega (arith, b.count))) ∙ ap (λ i. take i (b.bytes ++ drop (length b.bytes) l)) b.count ∙ take-append_seam b.bytes (drop (length b.bytes) l) in
         record {
@@ -76,6 +76,7 @@ module _ (text : Bytes) (words : List ℕ) (o : Options) {l m : Bytes} where
         go : (r : rattle.Result ℕ Refusal) → BufferedMeans (walk_listing text words o) out k r → AnswerIs (walk_answer text words o (length out)) out k r
         go (Err f) s = record { means = (fitted text words o (length out) s.0, s.1) }
         go (Ok i) s =
+            let b = made.means in
             let same : length b.bytes ≡ length s.bytes = ap length_of (sym b.answer ∙ s.answer) in
             let small : length s.bytes ≤ length out = omega (arith, b.count, same) in
             record {

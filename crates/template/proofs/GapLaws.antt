@@ -24,7 +24,7 @@ use Rattle.template.specs.State.{Level, State, state, prev_end, add_to}
 use Rattle.template.specs.Nests.{kept_gap}
 use Rattle.template.specs.Escapes.{escapes_to, bad_escapes, unescaped}
 use Rattle.template.specs.Step.{trim_line, trim_marked, trim_front, after_gap, take_gap}
-use Rattle.template.specs.Element.{front_trim, place_means, raw_means, item_means, RawGood, leaf, role_of, Sound, no_name, new_element, named_element}
+use Rattle.template.specs.Element.{front_trim, place_means, raw_means, item_means, RawGood, role_of, Sound, no_name, new_element, named_element}
 use Rattle.template.specs.Visit.{stage_means, MarksAre, HereIs, leaf_means, gap_effect, Made, GapMade}
 use Rattle.template.specs.Visiting.{SpanFits, front_of, raw_front, gap_text, gap_element}
 use Rattle.template.specs.declared.element.Front.TheVariants as Front

@@ -27,7 +27,7 @@ use Rattle.template.specs.State.{Level, level, State, state, owner_of, owner, op
 use Rattle.template.specs.Nests.{is_filling, is_of_kind, tag_nests, nests}
 use Rattle.template.specs.Refusal.{max_open, one_too_many, too_many_open}
 use Rattle.template.specs.Step.{any_blanks, after_gap, take_gap, remove_previous_whitespace, process_standalone, standalone, indent, owner_for, standalone_of, tag_trims, tag_effect, tag_step}
-use Rattle.template.specs.Element.{back_trim, call_at, block_at, indent_means, item_means, head_means, wrap_means, new_element, named_element}
+use Rattle.template.specs.Element.{back_trim, call_at, block_at, indent_means, item_means, head_means, wrap_means, named_element}
 use Rattle.template.specs.TagRead.{tag_means}
 use Rattle.template.specs.Visit.{stage_means, end_means, with_marks, leaf_means, gap_effect, trim_effect, act_effect, applied, Allowed}
 use Rattle.template.specs.Visiting.{Visited, TagMakes, gap_element, trim_of, cut_of, line_of, stage_behind, helper_of, decorator_of, element_for, act_for, indent_of, CutIs, LineIs, StageIs, ElementIs, ActIs, IndentIs}

@@ -125,8 +125,7 @@ pub(crate) fn kept_gap(m: Marks, s: Span) -> bool
     if m.omit_pro_ws {
         return false;
     }
-    let tag = s.tag;
-    match tag {
+    match s.tag {
         1..=3 => false,
         _ => true,
     }
@@ -135,46 +134,26 @@ pub(crate) fn kept_gap(m: Marks, s: Span) -> bool
 pub(crate) fn is_filling(g: Stage) -> bool
     ensures { result ≡ is_filling (stage_means g) }
 {
-    match g {
-        Stage::Waiting => false,
-        Stage::Filling => true,
-        Stage::Full => false,
-    }
+    matches!(g, Stage::Filling)
 }
 
 fn is_waiting(g: Stage) -> bool
     ensures { result ≡ is_waiting (stage_means g) }
 {
-    match g {
-        Stage::Waiting => true,
-        Stage::Filling => false,
-        Stage::Full => false,
-    }
+    matches!(g, Stage::Waiting)
 }
 
 fn is_raw(o: Opened) -> bool
     ensures { RawIs o result }
 {
-    match o {
-        Opened::Raw => true,
-        Opened::Root => false,
-        Opened::Helper => false,
-        Opened::Decorator => false,
-        Opened::Partial => false,
-    }
+    matches!(o, Opened::Raw)
 }
 
 // A helper block with no plain else so far.
 fn takes_else(o: Opened, inverted: bool) -> bool
     ensures { TakesIs o inverted result }
 {
-    match o {
-        Opened::Helper => !inverted,
-        Opened::Root => false,
-        Opened::Raw => false,
-        Opened::Decorator => false,
-        Opened::Partial => false,
-    }
+    matches!(o, Opened::Helper) && !inverted
 }
 
 // An end tag needs the innermost block's kind.
@@ -247,8 +226,7 @@ pub(crate) fn bad_escapes(
     let mut least = start;
     let mut k = from;
     loop {
-        let e = escape_at(words, k);
-        let Escape::Found(x) = e else {
+        let Escape::Found(x) = escape_at(words, k) else {
             return false;
         };
         if limit < x.end {

@@ -29,19 +29,14 @@ fn read_own(
 ) -> Result<TagExpression, Fault>
     ensures { OwnReadIs text.now words.now from limit left result }
 {
-    let r = parse_expression(text, words, from, limit, Subexpression::LIMIT, true);
-    match r {
-        ExpressionRead::Done(x) => {
-            let name = x.name;
-            let pre = if left { true } else { x.omit_pre_ws };
-            Ok(TagExpression {
-                omit_pre_ws: pre,
-                omit_pro_ws: x.omit_pro_ws,
-                name: name,
-                from: from,
-                next: x.next,
-            })
-        }
+    match parse_expression(text, words, from, limit, Subexpression::LIMIT, true) {
+        ExpressionRead::Done(x) => Ok(TagExpression {
+            omit_pre_ws: left || x.omit_pre_ws,
+            omit_pro_ws: x.omit_pro_ws,
+            name: x.name,
+            from,
+            next: x.next,
+        }),
         ExpressionRead::Failed(f) => Err(f),
     }
 }
@@ -51,12 +46,10 @@ fn read_chain(text: &[u8], words: &[u32], s: Span) -> Result<TagExpression, Faul
     requires { s.number < span_count words.now }
     ensures { s.tag ≡ 10 → TagReadIs text.now words.now s result }
 {
-    let t = parse_tilde(words, s.number + 1);
-    let TildeRead::Done(left, at) = t else {
+    let TildeRead::Done(left, at) = parse_tilde(words, s.number + 1) else {
         return Err(Fault::Ended);
     };
-    let p = parse_name(text, words, at, Subexpression::LIMIT, true);
-    match p {
+    match parse_name(text, words, at, Subexpression::LIMIT, true) {
         ParamRead::Done(_, next) => read_own(text, words, next, s.end, left),
         ParamRead::Failed(f) => Err(f),
     }

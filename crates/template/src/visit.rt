@@ -85,9 +85,8 @@ pub struct Step {
 fn advance(text: &[u8], here: Here, to: usize) -> Here
     ensures { AdvanceIs text.now here to result }
 {
-    let from = here.place;
     Here {
-        place: line_col(from, part(text, here.at, to)),
+        place: line_col(here.place, part(text, here.at, to)),
         at: to,
     }
 }
@@ -147,19 +146,18 @@ fn skipped(words: &[u32], v: View, s: Span, gap: bool, here: Here) -> Step
     ensures { (text : Bytes) (o : Options) → KindIs text words.now o v s gap here (Ok result) }
 {
     let m = v.marks;
-    let g = m.stage;
     Step {
         gap: gap_of(words, m, s, here.place, gap),
         back: Back::Kept,
         act: Act::Skip,
         marks: Marks {
-            stage: stage_after_gap(g, gap),
+            stage: stage_after_gap(m.stage, gap),
             end_pos: s.end,
             started: true,
-            omit_pro_ws: m.omit_pro_ws,
             trim_line_required: but_not(m.trim_line_required, gap),
+            ..m
         },
-        here: here,
+        here,
         next: s.number + 1,
     }
 }
@@ -170,20 +168,15 @@ fn template(v: View, s: Span) -> Step
     requires counted { s.number < max_spans }
     ensures { (text : Bytes) (words : List ℕ) (o : Options) (gap : Bool) (here : Here) → KindIs text words o v s gap here (Ok result) }
 {
-    let m = v.marks;
-    let here = v.here;
     Step {
         gap: None,
         back: Back::Kept,
         act: Act::Skip,
         marks: Marks {
             stage: Stage::Filling,
-            end_pos: m.end_pos,
-            started: m.started,
-            omit_pro_ws: m.omit_pro_ws,
-            trim_line_required: m.trim_line_required,
+            ..v.marks
         },
-        here: here,
+        here: v.here,
         next: s.number + 1,
     }
 }
@@ -202,13 +195,12 @@ fn text_of(v: View, s: Span, start: usize, place: Place) -> Element
     requires { s.number < max_spans }
     ensures { result ≡ text_element v s start place }
 {
-    let m = v.marks;
     Element::new(
         TemplateElement::RawString(RawString {
-            start: start,
+            start,
             end: s.end,
             escapes: s.number + 1,
-            front: raw_front(m),
+            front: raw_front(v.marks),
             back: Back::Kept,
         }),
         place,
@@ -220,19 +212,18 @@ fn text_step(v: View, s: Span, start: usize, here: Here, stage: Stage, line: boo
     requires { s.number < max_spans }
     ensures { result ≡ text_step v s here start stage line }
 {
-    let m = v.marks;
     Step {
         gap: None,
         back: Back::Kept,
         act: Act::Add(text_of(v, s, start, here.place), Added::Leaf),
         marks: Marks {
-            stage: stage,
+            stage,
             end_pos: s.end,
             started: true,
-            omit_pro_ws: m.omit_pro_ws,
             trim_line_required: line,
+            ..v.marks
         },
-        here: here,
+        here,
         next: s.number + 1,
     }
 }
@@ -243,14 +234,14 @@ fn raw_string(text: &[u8], words: &[u32], v: View, s: Span, here: Here) -> Resul
     requires counted { s.number < max_spans }
     ensures { (o : Options) (gap : Bool) → KindIs text.now words.now o v s gap here result }
 {
-    let m = v.marks;
-    if bad_escapes(text, words, m.end_pos, s.end, s.number + 1) {
+    let start = v.marks.end_pos;
+    if bad_escapes(text, words, start, s.end, s.number + 1) {
         return Err(Refusal {
             reason: Reason::BadEscape,
             place: s.number,
         });
     }
-    Ok(text_step(v, s, m.end_pos, here, Stage::Filling, false))
+    Ok(text_step(v, s, start, here, Stage::Filling, false))
 }
 
 // That of tag 3 is its own span; a raw body takes nothing more.
@@ -259,14 +250,13 @@ fn raw_block_text(text: &[u8], words: &[u32], v: View, s: Span, here: Here) -> R
     requires counted { s.number < max_spans }
     ensures { (o : Options) (gap : Bool) → KindIs text.now words.now o v s gap here result }
 {
-    let m = v.marks;
     if bad_escapes(text, words, s.start, s.end, s.number + 1) {
         return Err(Refusal {
             reason: Reason::BadEscape,
             place: s.number,
         });
     }
-    Ok(text_step(v, s, s.start, here, Stage::Full, m.trim_line_required))
+    Ok(text_step(v, s, s.start, here, Stage::Full, v.marks.trim_line_required))
 }
 
 // An empty line starts after the tag, or nothing at all follows and it is no partial.
@@ -299,8 +289,7 @@ fn process_standalone_statement(
     if !with_trailing_newline(text, starts, s.end, is_partial) {
         return false;
     }
-    let start = s.start;
-    ends[start]
+    ends[s.start]
 }
 
 // How the last text is trimmed: by a left tilde, or by the standalone test.
@@ -348,7 +337,6 @@ fn comment(
     ensures { KindIs text.now words.now o v s gap here (Ok result) }
 {
     let m = v.marks;
-    let g = m.stage;
     let standalone = process_standalone_statement(text, starts, ends, s, o.is_partial);
     let e = comment_of(s, here.place);
     Step {
@@ -356,13 +344,13 @@ fn comment(
         back: trim_of(false, standalone),
         act: Act::Add(e, Added::Leaf),
         marks: Marks {
-            stage: stage_after_gap(g, gap),
+            stage: stage_after_gap(m.stage, gap),
             end_pos: s.end,
             started: true,
-            omit_pro_ws: m.omit_pro_ws,
             trim_line_required: standalone,
+            ..m
         },
-        here: here,
+        here,
         next: s.number + 1,
     }
 }
@@ -395,8 +383,7 @@ fn element_of(s: Span, x: TagExpression, mark: bool, indent: bool) -> TemplateEl
 {
     let h = helper(x, s, mark);
     let d = decorator(x, s, mark, indent);
-    let tag = s.tag;
-    match tag {
+    match s.tag {
         5..=6 => TemplateElement::HelperBlock(h),
         7 => TemplateElement::DecoratorBlock(d),
         8 => TemplateElement::PartialBlock(d),
@@ -498,14 +485,12 @@ fn step_of(
     ensures { TagMakes text.now words.now o v s x gap here result }
 {
     let m = v.marks;
-    let g = m.stage;
     let standalone = process_standalone_statement(text, starts, ends, s, o.is_partial);
     let line = but_not(m.trim_line_required, gap);
     let mark = but_not(standalone, x.omit_pre_ws);
     let indent = is_indented(s.tag, o.prevent_indent, x.omit_pre_ws);
     let cut = is_cut(s.tag, standalone, o.prevent_indent);
-    let name = x.name;
-    let e = Element::named(element_of(s, x, mark, indent), name, here.place);
+    let e = Element::named(element_of(s, x, mark, indent), x.name, here.place);
     Step {
         gap: gap_of(words, m, s, here.place, gap),
         back: trim_of(x.omit_pre_ws, cut),
@@ -517,7 +502,7 @@ fn step_of(
             omit_pro_ws: x.omit_pro_ws,
             trim_line_required: line_mark(s.tag, standalone, line),
         },
-        here: here,
+        here,
         next: x.next,
     }
 }
@@ -557,19 +542,16 @@ fn tagged(
     requires fits { SpanFits text.now s }
     ensures { KindIs text.now words.now o v s gap here result }
 {
-    let r = read_tag(text, words, s);
-    match r {
+    match read_tag(text, words, s) {
         Err(f) => Err(Refusal {
             reason: Reason::from(f),
             place: fault_place(span_count(words), s, f),
         }),
         Ok(x) => {
-            let name = x.name;
-            let end = name.as_name();
-            let opened = v.name;
-            if let Some(reason) = refusal_of(text, s.tag, v.count, opened, end) {
+            let end = x.name.as_name();
+            if let Some(reason) = refusal_of(text, s.tag, v.count, v.name, end) {
                 return Err(Refusal {
-                    reason: reason,
+                    reason,
                     place: s.number,
                 });
             }
@@ -597,8 +579,7 @@ fn visit_kind(
     requires fits { SpanFits text.now s }
     ensures { KindIs text.now words.now o v s gap here result }
 {
-    let tag = s.tag;
-    match tag {
+    match s.tag {
         1 => Ok(template(v, s)),
         2 => raw_string(text, words, v, s, here),
         3 => raw_block_text(text, words, v, s, here),
@@ -622,8 +603,7 @@ pub(crate) fn visit_span(
     requires lines { LinesAre text.now starts.now ends.now }
     ensures { VisitIs text.now words.now o v at result }
 {
-    let n = next_span(words, at);
-    let Next::Span(s) = n else {
+    let Next::Span(s) = next_span(words, at) else {
         return Ok(None);
     };
     let m = v.marks;
@@ -634,16 +614,13 @@ pub(crate) fn visit_span(
         });
     }
     let gap = kept_gap(m, s);
-    let g = m.stage;
-    let opened = v.opened;
-    if !nests(g, opened, v.inverted, s.tag, gap) {
+    if !nests(m.stage, v.opened, v.inverted, s.tag, gap) {
         return Err(Refusal {
             reason: Reason::BadNesting,
             place: s.number,
         });
     }
-    let before = v.here;
-    let here = advance(text, before, s.start);
+    let here = advance(text, v.here, s.start);
     let step = visit_kind(text, starts, ends, words, o, v, s, gap, here)?;
     Ok(Some(step))
 }

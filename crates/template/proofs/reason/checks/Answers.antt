@@ -1,6 +1,6 @@
 -- By the questions 1 to 5 in turn. Assumes nothing.
 use native.Mathlib.Omega.{arith}
-use mathlib.Core.Path.{refl, sym, ap, ◌∙◌}
+use mathlib.Core.Path.{sym}
 use Rattle.template.proofs.Exits.{handed_on}
 use Rattle.template.proofs.CheckLaws as laws
 use Rattle.template.proofs.reason.checks.Goals as goal

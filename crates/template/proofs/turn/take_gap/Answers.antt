@@ -1,5 +1,4 @@
 -- By the two cases of the gap. Assumes nothing.
-use mathlib.Core.Path.{sym, ap}
 use Rattle.template.specs.Turn.{gapped_of}
 use Rattle.template.proofs.turn.take_gap.Goals as goal
 
