@@ -1,6 +1,7 @@
 pub mod TagKinds
 pub mod Steps
 pub mod Decides
+pub mod Exits
 pub mod SpanReasons
 pub mod WalkEquations
 pub mod WalkReasons
@@ -29,7 +30,6 @@ pub mod Fits
 pub mod OpenSteps
 pub mod CloseSteps
 pub mod Trims
-pub mod ChainHeads
 pub mod Turns
 pub mod Ready
 pub mod ElementWrites

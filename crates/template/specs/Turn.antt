@@ -1,5 +1,5 @@
 -- What a turn of the walk does to the store: the values that it stores, and where.
-use Rattle.std.specs.Prelude.{ℕ, ◌+◌, ◌-◌, ◌≡◌, List, Bool, true, false, eqb}
+use Rattle.std.specs.Prelude.{ℕ, ◌+◌, ◌-◌, ◌≡◌, List, Bool, true, false, Option, Some, None, Result, Ok, eqb}
 use Rattle.support.specs.Bytes.{Bytes, if}
 use Rattle.template.specs.Element.{empty_element}
 use Rattle.template.specs.Links.{inverse_node, followed_by, set_template, set_inverse}
@@ -13,12 +13,10 @@ use Rattle.template.specs.declared.visit.Act.{Act}
 use Rattle.template.specs.declared.visit.Act.TheVariants as A
 use Rattle.template.specs.declared.visit.Added.{Added}
 use Rattle.template.specs.declared.visit.Added.TheVariants as N
-use Rattle.template.specs.declared.turn.ChainHead.{ChainHead}
 use Rattle.template.specs.declared.visit.Options.{Options}
 use Rattle.template.specs.declared.visit.View.{View}
 use Rattle.template.specs.declared.visit.Step.{Step}
-use Rattle.template.specs.declared.visit.Visit.{Visit}
-use Rattle.template.specs.declared.visit.Visit.TheVariants as Vis
+use Rattle.template.specs.declared.refusal.Refusal.{Refusal}
 use Rattle.template.specs.declared.turn.Turn.{Turn}
 use Rattle.template.specs.declared.turn.Plan.{Plan}
 use Rattle.template.specs.declared.turn.Joined.{Joined}
@@ -28,10 +26,6 @@ use Rattle.template.specs.declared.turn.Gapped.{Gapped}
 -- the root's body, with nothing in it
 abbrev pub empty_frame : Frame
 empty_frame = record { opened = O.Root; block = 0; head = 0; first = 0; last = 0; chain = false; inverted = false }
-
--- the newest else-if node, if there is one
-unfoldable pub head_of : ℕ → ChainHead
-head_of n = if (eqb n 0) ChainHead.None (ChainHead.Node n)
 
 -- the element that the open body belongs to: the newest else-if node, or the block
 unfoldable pub ref_chain_head : ℕ → ℕ → ℕ
@@ -127,16 +121,17 @@ joined_of x last at =
     (if (eqb x.last 0) (record { top = filled x at at; last = last }) (record { top = filled x x.first at; last = followed_by last at }))
 
 -- the gap's element, if it is kept
-unfoldable pub gapped_of : Bool → Element → ℕ → Gapped
-gapped_of kept gap len = if kept (record { made = gap; len = len + 1; join = len }) (record { made = empty_element; len = len; join = 0 })
+unfoldable pub gapped_of : Option Element → ℕ → Gapped
+gapped_of (Some e) len = record { made = e; len = len + 1; join = len }
+gapped_of None len = record { made = empty_element; len = len; join = 0 }
 
 -- ---- what is visited
 
 -- nothing happens
 abbrev pub still_step : View → ℕ → Step
-still_step v at = record { gapped = false; gap = empty_element; back = Back.Kept; act = A.Skip; marks = v.marks; here = v.here; next = at }
+still_step v at = record { gap = None; back = Back.Kept; act = A.Skip; marks = v.marks; here = v.here; next = at }
 
 -- r is what a turn does first: while a block closes nothing, else the visit
-pub record LookIs (text : Bytes) (words : List ℕ) (o : Options) (v : View) (at : ℕ) (closing : Bool) (r : Visit) : Type 0 where
-  pub still : closing ≡ true → r ≡ Vis.Step (still_step v at)
+pub record LookIs (text : Bytes) (words : List ℕ) (o : Options) (v : View) (at : ℕ) (closing : Bool) (r : Result (Option Step) Refusal) : Type 0 where
+  pub still : closing ≡ true → r ≡ Ok (Some (still_step v at))
   pub visits : closing ≡ false → VisitIs text words o v at r

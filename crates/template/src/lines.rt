@@ -10,9 +10,10 @@ fn line_across(c: u8, line: bool) -> bool
     ensures { result ≡ line_across c line }
 {
     if whitespace_matcher(c) {
-        return line;
+        line
+    } else {
+        newline_matcher(c)
     }
-    newline_matcher(c)
 }
 
 // None starts at the end of the text; before it, by the byte that follows.
@@ -20,11 +21,9 @@ fn find_line_starts(text: &[u8], starts: &mut [bool])
     requires { length text.now < length starts.old }
     ensures { StartsAre text.now starts.new }
 {
-    let mut i = text.len();
     let mut line = false;
-    starts[i] = line;
-    while 0 < i {
-        i -= 1;
+    starts[text.len()] = line;
+    for i in (0..text.len()).rev() {
         line = line_across(text[i], line);
         starts[i] = line;
     }
@@ -35,13 +34,11 @@ fn find_line_ends(text: &[u8], ends: &mut [bool])
     requires { length text.now < length ends.old }
     ensures { EndsAre text.now ends.new }
 {
-    let mut i = 0;
     let mut line = true;
-    ends[i] = line;
-    while i < text.len() {
-        line = line_across(text[i], line);
-        i += 1;
-        ends[i] = line;
+    ends[0] = line;
+    for (i, c) in text.iter().enumerate() {
+        line = line_across(*c, line);
+        ends[i + 1] = line;
     }
 }
 

@@ -1,46 +1,18 @@
 // What a turn of the walk does to the store, as values: the element that is made, the owner of the
 // open body, the frames, and what joins the body. What does not change is stored again as it was.
-ghost use Rattle.std.specs.Prelude.{◌≡◌, ◌≤◌, ◌-◌};
-ghost use Rattle.template.specs.Turn.{head_of, ref_chain_head, emptied, filled, plain_plan, begin_plan, chain_plan, template_plan, shut_plan, revert_plan, inverse_plan, close_plan, add_plan, act_plan, plan_of, turn_of, joined_of, gapped_of};
+ghost use Rattle.std.specs.Prelude.{◌≡◌, ◌≤◌};
+ghost use Rattle.template.specs.Element.{empty_element};
+ghost use Rattle.template.specs.Turn.{ref_chain_head, emptied, filled, plain_plan, begin_plan, chain_plan, template_plan, shut_plan, revert_plan, inverse_plan, close_plan, add_plan, act_plan, plan_of, turn_of, joined_of, gapped_of};
 
 use crate::element::Element;
 use crate::frame::{Frame, Opened};
 use crate::visit::{Act, Added};
 
-// The newest else-if node of an open block, if it has one.
-#[derive(Clone, Copy)]
-pub enum ChainHead {
-    None,
-    Node(usize),
-}
-
-fn chain_head(head: usize) -> ChainHead
-    ensures { result ≡ head_of head }
-{
-    if head == 0 {
-        return ChainHead::None;
-    }
-    ChainHead::Node(head)
-}
-
 // The element that the open body belongs to: the newest else-if node, or the block.
 pub(crate) fn ref_chain_head(block: usize, head: usize) -> usize
     ensures { result ≡ ref_chain_head block head }
 {
-    let h = chain_head(head);
-    let ChainHead::Node(node) = h else {
-        return block;
-    };
-    node
-}
-
-pub(crate) fn less(x: usize) -> usize
-    ensures { result ≡ x - 1 }
-{
-    if 0 < x {
-        return x - 1;
-    }
-    0
+    if head == 0 { block } else { head }
 }
 
 // A turn: the act of a span; an else-if node is turned round; the block is complete.
@@ -87,15 +59,11 @@ pub struct Open {
 fn emptied(f: Frame, inverted: bool) -> Frame
     ensures { result ≡ emptied f inverted }
 {
-    let opened = f.opened;
     Frame {
-        opened: opened,
-        block: f.block,
-        head: f.head,
         first: 0,
         last: 0,
-        chain: f.chain,
-        inverted: inverted,
+        inverted,
+        ..f
     }
 }
 
@@ -103,56 +71,45 @@ fn emptied(f: Frame, inverted: bool) -> Frame
 fn filled(f: Frame, first: usize, last: usize) -> Frame
     ensures { result ≡ filled f first last }
 {
-    let opened = f.opened;
-    Frame {
-        opened: opened,
-        block: f.block,
-        head: f.head,
-        first: first,
-        last: last,
-        chain: f.chain,
-        inverted: f.inverted,
-    }
+    Frame { first, last, ..f }
 }
 
 // Nothing happens, or `join` joins the body on top.
 fn plain(o: Open, made: Element, len: usize, join: usize) -> Plan
     ensures { result ≡ plain_plan o made len join }
 {
-    let owner = o.owner;
-    let top = o.top;
-    let below = o.below;
     Plan {
-        made: made,
-        owner: owner,
-        top: top,
-        put: below,
-        slot: less(o.depth),
+        made,
+        owner: o.owner,
+        top: o.top,
+        put: o.below,
+        slot: o.depth.saturating_sub(1),
         depth: o.depth,
-        len: len,
+        len,
         count: o.count,
-        join: join,
+        join,
         closing: false,
     }
+}
+
+// Nothing happens and nothing is made.
+fn still(o: Open) -> Plan
+    ensures { result ≡ plain_plan o empty_element o.len 0 }
+{
+    plain(o, Element::EMPTY, o.len, 0)
 }
 
 fn begin(o: Open, made: Element, opened: Opened) -> Plan
     requires { (o.depth ≤ 64) × (o.len ≤ 8192) × (o.count ≤ 64) }
     ensures { result ≡ begin_plan o made opened }
 {
-    let owner = o.owner;
-    let top = o.top;
     Plan {
-        made: made,
-        owner: owner,
         top: Frame::new(opened, o.len),
-        put: top,
+        put: o.top,
         slot: o.depth,
         depth: o.depth + 1,
-        len: o.len + 1,
         count: o.count + 1,
-        join: 0,
-        closing: false,
+        ..plain(o, made, o.len + 1, 0)
     }
 }
 
@@ -161,29 +118,15 @@ fn chain(o: Open, made: Element) -> Plan
     requires { (o.depth ≤ 64) × (o.len ≤ 8192) × (o.count ≤ 64) }
     ensures { result ≡ chain_plan o made }
 {
-    let owner = o.owner;
-    let top = o.top;
-    let below = o.below;
-    let opened = top.opened;
     Plan {
-        made: made.insert_inverse_node(top.head),
-        owner: owner.set_template(top.first),
+        owner: o.owner.set_template(o.top.first),
         top: Frame {
-            opened: opened,
-            block: top.block,
             head: o.len,
-            first: 0,
-            last: 0,
             chain: true,
-            inverted: false,
+            ..emptied(o.top, false)
         },
-        put: below,
-        slot: less(o.depth),
-        depth: o.depth,
-        len: o.len + 1,
         count: o.count + 1,
-        join: 0,
-        closing: false,
+        ..plain(o, made.insert_inverse_node(o.top.head), o.len + 1, 0)
     }
 }
 
@@ -191,20 +134,11 @@ fn chain(o: Open, made: Element) -> Plan
 fn set_chain_template(o: Open, inverted: bool, closing: bool) -> Plan
     ensures { result ≡ template_plan o inverted closing }
 {
-    let owner = o.owner;
-    let top = o.top;
-    let below = o.below;
     Plan {
-        made: Element::EMPTY,
-        owner: owner.set_template(top.first),
-        top: emptied(top, inverted),
-        put: below,
-        slot: less(o.depth),
-        depth: o.depth,
-        len: o.len,
-        count: o.count,
-        join: 0,
-        closing: closing,
+        owner: o.owner.set_template(o.top.first),
+        top: emptied(o.top, inverted),
+        closing,
+        ..still(o)
     }
 }
 
@@ -212,20 +146,9 @@ fn set_chain_template(o: Open, inverted: bool, closing: bool) -> Plan
 fn shut(o: Open) -> Plan
     ensures { result ≡ shut_plan o }
 {
-    let owner = o.owner;
-    let top = o.top;
-    let below = o.below;
     Plan {
-        made: Element::EMPTY,
-        owner: owner,
-        top: top,
-        put: below,
-        slot: less(o.depth),
-        depth: o.depth,
-        len: o.len,
-        count: o.count,
-        join: 0,
         closing: true,
+        ..still(o)
     }
 }
 
@@ -233,29 +156,16 @@ fn shut(o: Open) -> Plan
 fn revert_chain(o: Open) -> Plan
     ensures { result ≡ revert_plan o }
 {
-    let owner = o.owner;
-    let top = o.top;
-    let below = o.below;
-    let opened = top.opened;
     Plan {
-        made: Element::EMPTY,
-        owner: owner.set_inverse(top.first, top.inverted, true),
+        owner: o.owner.set_inverse(o.top.first, o.top.inverted, true),
         top: Frame {
-            opened: opened,
-            block: top.block,
-            head: owner.inverse,
-            first: top.head,
-            last: 0,
-            chain: top.chain,
+            head: o.owner.inverse,
             inverted: true,
+            ..filled(o.top, o.top.head, 0)
         },
-        put: below,
-        slot: less(o.depth),
-        depth: o.depth,
-        len: o.len,
-        count: less(o.count),
-        join: 0,
+        count: o.count.saturating_sub(1),
         closing: true,
+        ..still(o)
     }
 }
 
@@ -263,31 +173,26 @@ fn revert_chain(o: Open) -> Plan
 fn set_inverse(o: Open) -> Plan
     ensures { result ≡ inverse_plan o }
 {
-    let owner = o.owner;
-    let top = o.top;
-    let below = o.below;
     Plan {
-        made: Element::EMPTY,
-        owner: owner.set_inverse(top.first, top.inverted, top.chain),
-        top: below,
-        put: below,
-        slot: less(o.depth),
-        depth: less(o.depth),
-        len: o.len,
-        count: less(o.count),
-        join: top.block,
-        closing: false,
+        owner: o
+            .owner
+            .set_inverse(o.top.first, o.top.inverted, o.top.chain),
+        top: o.below,
+        depth: o.depth.saturating_sub(1),
+        count: o.count.saturating_sub(1),
+        join: o.top.block,
+        ..still(o)
     }
 }
 
 fn close(o: Open) -> Plan
     ensures { result ≡ close_plan o }
 {
-    let top = o.top;
-    if top.inverted {
-        return shut(o);
+    if o.top.inverted {
+        shut(o)
+    } else {
+        set_chain_template(o, false, true)
     }
-    set_chain_template(o, false, true)
 }
 
 fn plan_add(e: Element, added: Added, o: Open) -> Plan
@@ -306,7 +211,7 @@ fn plan_act(a: Act, o: Open) -> Plan
     ensures { result ≡ act_plan a o }
 {
     match a {
-        Act::Skip => plain(o, Element::EMPTY, o.len, 0),
+        Act::Skip => still(o),
         Act::Add(e, added) => plan_add(e, added, o),
         Act::Else => set_chain_template(o, true, false),
         Act::Close => close(o),
@@ -328,14 +233,13 @@ pub(crate) fn plan_of(t: Turn, o: Open) -> Plan
 pub(crate) fn turn_of(closing: bool, head: usize, act: Act) -> Turn
     ensures { result ≡ turn_of closing head act }
 {
-    if closing {
-        let h = chain_head(head);
-        let ChainHead::Node(_) = h else {
-            return Turn::Set;
-        };
-        return Turn::Revert;
+    if !closing {
+        Turn::Act(act)
+    } else if head == 0 {
+        Turn::Set
+    } else {
+        Turn::Revert
     }
-    Turn::Act(act)
 }
 
 // The frame and the last element of its body, with `at` behind them.
@@ -343,20 +247,17 @@ pub(crate) fn join(top: Frame, last: Element, at: usize) -> Joined
     ensures { result ≡ joined_of top last at }
 {
     if at == 0 {
-        return Joined {
-            top: top,
-            last: last,
-        };
-    }
-    if top.last == 0 {
-        return Joined {
+        Joined { top, last }
+    } else if top.last == 0 {
+        Joined {
             top: filled(top, at, at),
-            last: last,
-        };
-    }
-    Joined {
-        top: filled(top, top.first, at),
-        last: last.followed_by(at),
+            last,
+        }
+    } else {
+        Joined {
+            top: filled(top, top.first, at),
+            last: last.followed_by(at),
+        }
     }
 }
 
@@ -368,20 +269,20 @@ pub struct Gapped {
     pub join: usize,
 }
 
-pub(crate) fn take_gap(kept: bool, gap: Element, len: usize) -> Gapped
+pub(crate) fn take_gap(gap: Option<Element>, len: usize) -> Gapped
     requires { len ≤ 8192 }
-    ensures { result ≡ gapped_of kept gap len }
+    ensures { result ≡ gapped_of gap len }
 {
-    if kept {
-        return Gapped {
-            made: gap,
+    match gap {
+        Some(made) => Gapped {
+            made,
             len: len + 1,
             join: len,
-        };
-    }
-    Gapped {
-        made: Element::EMPTY,
-        len: len,
-        join: 0,
+        },
+        None => Gapped {
+            made: Element::EMPTY,
+            len,
+            join: 0,
+        },
     }
 }

@@ -1,22 +1,22 @@
 // The walk: it holds the store.
-ghost use Rattle.std.specs.Prelude.{◌≡◌};
+ghost use Rattle.std.specs.Prelude.{◌≡◌, ◌*◌, ◌≤◌, ◌<◌};
+ghost use Rattle.json_path.specs.Span.{span_count};
 ghost use Rattle.template.specs.Element.{Good};
 ghost use Rattle.template.specs.Lines.{LinesAre};
 ghost use Rattle.template.specs.Turn.{LookIs};
 ghost use Rattle.template.specs.Finish.{unfinished_at, RestIs, walk_listing, BufferedIs};
 
-use crate::compile::Answer;
 use crate::element::{Back, Element, Front, RawString, TemplateElement};
 use crate::frame::{Frame, Marks};
-use crate::list::{Waiting, deeper, has_else, link_behind, link_inside, write_element, write_end};
 use crate::reason::is_filling;
+use crate::refusal::{Reason, Refusal};
+use crate::tree::write_tree;
 use crate::turn::{
-    Gapped, Joined, Open, Plan, Turn, join, less, plan_of, ref_chain_head, take_gap, turn_of,
+    Gapped, Joined, Open, Plan, Turn, join, plan_of, ref_chain_head, take_gap, turn_of,
 };
-use crate::visit::{Act, Here, Options, Step, View, Visit, visit_span};
+use crate::visit::{Act, Here, Options, Step, View, visit_span};
 use expression::parameter::AsName;
 use json_path::span::span_count;
-use listing::write::put_bytes;
 use support::bytes::part;
 use support::position::{Place, line_col};
 
@@ -30,7 +30,7 @@ pub(crate) fn look(
     v: View,
     at: usize,
     closing: bool,
-) -> Visit
+) -> Result<Option<Step>, Refusal>
     requires good { Good text.now words.now }
     requires lines { LinesAre text.now starts.now ends.now }
     ensures { LookIs text.now words.now o v at closing result }
@@ -38,15 +38,14 @@ pub(crate) fn look(
     if closing {
         let m = v.marks;
         let h = v.here;
-        return Visit::Step(Step {
-            gapped: false,
-            gap: Element::EMPTY,
+        return Ok(Some(Step {
+            gap: None,
             back: Back::Kept,
             act: Act::Skip,
             marks: m,
             here: h,
             next: at,
-        });
+        }));
     }
     visit_span(text, starts, ends, words, o, v, at)
 }
@@ -65,12 +64,15 @@ pub(crate) fn unfinished(text: &[u8], m: Marks, depth: usize) -> bool
     true
 }
 
-// The text after the last previous end.
-pub(crate) fn rest_of(text: &[u8], words: &[u32], m: Marks, h: Here) -> Element
+// The text after the last previous end, if there is any.
+pub(crate) fn rest_of(text: &[u8], words: &[u32], m: Marks, h: Here) -> Option<Element>
     ensures { RestIs text.now words.now m h result }
 {
+    if text.len() <= m.end_pos {
+        return None;
+    }
     let from = h.place;
-    Element::new(
+    Some(Element::new(
         TemplateElement::RawString(RawString {
             start: m.end_pos,
             end: text.len(),
@@ -79,27 +81,28 @@ pub(crate) fn rest_of(text: &[u8], words: &[u32], m: Marks, h: Here) -> Element
             back: Back::Kept,
         }),
         line_col(from, part(text, h.at, m.end_pos)),
-    )
+    ))
 }
 
 // Each turn: what is visited, the gap, the trim of the last text, the act. The store and the frames are
 // written at every turn, with what was there where nothing changes. At the end of the list the text that is
-// left joins the root's body. Then the tree is listed: from element to element, and back to the block that
-// waits where a body ends. What the output has no room for is only counted. Both loops stand in one
-// function, since the store cannot be lent and is too big to be handed on.
-pub(crate) fn walk(
+// left joins the root's body, and the tree is listed. `N` is how many elements the store has: to fill a large
+// one takes longer than the work on a small card.
+pub(crate) fn walk<const N: usize>(
     text: &[u8],
     starts: &[bool],
     ends: &[bool],
     words: &[u32],
     o: Options,
     out: &mut [u8],
-) -> Answer
+) -> Result<usize, Refusal>
     requires good { Good text.now words.now }
     requires lines { LinesAre text.now starts.now ends.now }
+    requires few { 2 * span_count words.now < N }
+    requires size { (1 < N) × (N ≤ 8193) }
     ensures { BufferedIs (walk_listing text.now words.now o) out.old out.new result }
 {
-    let mut elements = [Element::EMPTY; Element::LIMIT];
+    let mut elements = [Element::EMPTY; N];
     let mut levels = [Frame::EMPTY; Frame::LIMIT];
     let mut top = Frame::EMPTY;
     let mut marks = Marks::FIRST;
@@ -125,77 +128,72 @@ pub(crate) fn walk(
             count: count,
             here: here,
         };
-        let seen = look(text, starts, ends, words, o, v, at, closing);
-        match seen {
-            Visit::Refused(r) => {
-                return Answer::Refused(r.number, r.place);
+        let Some(s) = look(text, starts, ends, words, o, v, at, closing)? else {
+            if unfinished(text, marks, depth) {
+                return Err(Refusal {
+                    reason: Reason::BadNesting,
+                    place: span_count(words),
+                });
             }
-            Visit::End => {
-                if unfinished(text, marks, depth) {
-                    return Answer::Refused(7, span_count(words));
-                }
-                break;
-            }
-            Visit::Step(s) => {
-                let ge = s.gap;
-                let g = take_gap(s.gapped, ge, len);
-                let made = g.made;
-                elements[len] = made;
-                len = g.len;
-                let gl = top.last;
-                let gx = elements[gl];
-                let gj = join(top, gx, g.join);
-                let gz = gj.last;
-                elements[gl] = gz;
-                top = gj.top;
-                let back = s.back;
-                let tl = top.last;
-                let tx = elements[tl];
-                elements[tl] = tx.trim_end(back);
-                let w = ref_chain_head(top.block, top.head);
-                let owner = elements[w];
-                let u = less(depth);
-                let below = levels[u];
-                let act = s.act;
-                let t = turn_of(closing, top.head, act);
-                let p = plan_of(
-                    t,
-                    Open {
-                        top: top,
-                        below: below,
-                        owner: owner,
-                        depth: depth,
-                        len: len,
-                        count: count,
-                    },
-                );
-                let pm = p.made;
-                elements[len] = pm;
-                let po = p.owner;
-                elements[w] = po;
-                let slot = p.slot;
-                let pp = p.put;
-                levels[slot] = pp;
-                let pt = p.top;
-                let pl = pt.last;
-                let px = elements[pl];
-                let pj = join(pt, px, p.join);
-                let pz = pj.last;
-                elements[pl] = pz;
-                top = pj.top;
-                depth = p.depth;
-                len = p.len;
-                count = p.count;
-                closing = p.closing;
-                marks = s.marks;
-                here = s.here;
-                at = s.next;
-            }
-        }
+            break;
+        };
+        let gap = s.gap;
+        let g = take_gap(gap, len);
+        let made = g.made;
+        elements[len] = made;
+        len = g.len;
+        let gl = top.last;
+        let gx = elements[gl];
+        let gj = join(top, gx, g.join);
+        let gz = gj.last;
+        elements[gl] = gz;
+        top = gj.top;
+        let back = s.back;
+        let tl = top.last;
+        let tx = elements[tl];
+        elements[tl] = tx.trim_end(back);
+        let w = ref_chain_head(top.block, top.head);
+        let owner = elements[w];
+        let u = depth.saturating_sub(1);
+        let below = levels[u];
+        let act = s.act;
+        let t = turn_of(closing, top.head, act);
+        let p = plan_of(
+            t,
+            Open {
+                top: top,
+                below: below,
+                owner: owner,
+                depth: depth,
+                len: len,
+                count: count,
+            },
+        );
+        let pm = p.made;
+        elements[len] = pm;
+        let po = p.owner;
+        elements[w] = po;
+        let slot = p.slot;
+        let pp = p.put;
+        levels[slot] = pp;
+        let pt = p.top;
+        let pl = pt.last;
+        let px = elements[pl];
+        let pj = join(pt, px, p.join);
+        let pz = pj.last;
+        elements[pl] = pz;
+        top = pj.top;
+        depth = p.depth;
+        len = p.len;
+        count = p.count;
+        closing = p.closing;
+        marks = s.marks;
+        here = s.here;
+        at = s.next;
     }
     // The text that is left.
     let rest = rest_of(text, words, marks, here);
-    let rg = take_gap(marks.end_pos < text.len(), rest, len);
+    let rg = take_gap(rest, len);
     let rm = rg.made;
     elements[len] = rm;
     let rl = top.last;
@@ -203,32 +201,5 @@ pub(crate) fn walk(
     let rj = join(top, rx, rg.join);
     let rz = rj.last;
     elements[rl] = rz;
-    let rt = rj.top;
-    // The listing.
-    let mut waiting = [Waiting::EMPTY; Element::LIMIT];
-    let mut p = put_bytes(out, 0, b"[template\n");
-    let mut link = rt.first;
-    let mut waits: usize = 0;
-    loop {
-        if link > 0 {
-            let e = elements[link];
-            let more = e.has_body();
-            p = write_element(out, p, text, words, e);
-            waiting[waits] = Waiting::new(link, false);
-            waits = deeper(waits, more);
-            link = link_inside(e, more);
-        } else if waits > 0 {
-            waits -= 1;
-            let w = waiting[waits];
-            let b = w.block;
-            let e = elements[b];
-            let more = has_else(e, w);
-            p = write_end(out, p, more);
-            waiting[waits] = Waiting::new(b, true);
-            waits = deeper(waits, more);
-            link = link_behind(e, more);
-        } else {
-            return Answer::Listed(put_bytes(out, p, b"]\n"));
-        }
-    }
+    Ok(write_tree(out, text, words, &elements, rj.top.first))
 }

@@ -5,5 +5,5 @@ use Rattle.template.proofs.lines.line_across.Goals as goal
 pub returns-then-whitespace_matcher : goal.returns-then-whitespace_matcher
 returns-then-whitespace_matcher c = rw (sym c.whitespace_matcher.ensures ∙ c.if-whitespace_matcher.true)
 
-pub returns : goal.returns
-returns c = rw (sym c.whitespace_matcher.ensures ∙ c.if-whitespace_matcher.false) c.newline_matcher.ensures
+pub returns-else-whitespace_matcher : goal.returns-else-whitespace_matcher
+returns-else-whitespace_matcher c = rw (sym c.whitespace_matcher.ensures ∙ c.if-whitespace_matcher.false) c.newline_matcher.ensures

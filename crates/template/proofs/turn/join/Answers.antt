@@ -11,6 +11,6 @@ pub returns-then-top-eq0 : goal.returns-then-top-eq0
 unfolding joined_of
 returns-then-top-eq0 c = rw (c.filled.ensures, ne_eqb _ 0 c.if-at-eq0.false, eq-eqb _ 0 c.if-top-eq0.true)
 
-pub returns : goal.returns
+pub returns-else-top-eq0 : goal.returns-else-top-eq0
 unfolding joined_of
-returns c = rw (c.followed_by.ensures, c.filled-2.ensures, ne_eqb _ 0 c.if-at-eq0.false, ne_eqb _ 0 c.if-top-eq0.false)
+returns-else-top-eq0 c = rw (c.followed_by.ensures, c.filled-else-top-eq0.ensures, ne_eqb _ 0 c.if-at-eq0.false, ne_eqb _ 0 c.if-top-eq0.false)
