@@ -1,5 +1,6 @@
 -- What the walk tells a visit of the innermost body is the state's: its kind, its opening tag's name, what is open. The name that the
 -- block at hand holds is its expression's, and the block is the first of the branches that are gathered. Assumes nothing.
+use Rattle.std.specs.Prelude as std
 use Prim.Native.Nat.{ℕ}
 use native.Mathlib.Omega.{arith}
 use mathlib.Core.Path.{◌≡◌, refl, ap, subst, ◌∙◌}
@@ -7,7 +8,7 @@ use mathlib.Core.Bool.{false}
 use mathlib.Core.List.{List, [], ◌∷◌}
 use Rattle.support.specs.Bytes.{Bytes}
 use Rattle.support.specs.Position.{Place}
-use Rattle.expression.specs.declared.parameter.AsName.{AsName}
+use Rattle.json_path.specs.declared.path.Name.{Name}
 use Rattle.expression.specs.declared.parameter.Parameter.{Parameter}
 use Rattle.listing.specs.Tree.{Wrap, Head}
 use Rattle.template.specs.State.{Branch, closed, Owner, root, helper, in_else, wrapper, Level, level, owner_of, State, prev_end, head_name, wrap_name, first_name, opened_name, sum_open}
@@ -79,7 +80,7 @@ module _ (text : Bytes) (words : List ℕ) where
   inner_says st x hi (level (in_else p h d bs) es) b c = (first_says st p bs x.block c.1.0 h c.1.1, c.4)
   inner_says st x hi (level (wrapper p w) es) b c = (wrapper_says (element_at st x.block).name (element_at st x.block).element w c.1.0.is.role c.1.0.is.sound c.1.0.means, c.4)
 
-  pub tells : (n : ℕ) (st : List Element) (lv : List Frame) (x : Frame) (depth len count : ℕ) (s : State) (m : Marks) (h : Here) (r : AsName)
+  pub tells : (n : ℕ) (st : List Element) (lv : List Frame) (x : Frame) (depth len count : ℕ) (s : State) (m : Marks) (h : Here) (r : std.Option Name)
       → Kept text words n st lv x depth len count false s.top s.outer → MarksAre m s → HereIs text h (prev_end s) → BlockNameIs (element_at st x.block) r
       → Tells text (record { marks = m; opened = x.opened; inverted = x.inverted; name = r; count = count; here = h }) s
   unfolding sum_open

@@ -1,5 +1,7 @@
 -- The questions about a walked span, answer by answer: what the code finds of its own values is what the specification asks of every state
 -- that they tell of. By cases on the kind of the open body, and on the kind of the tag by ranges (TagKinds).
+use Rattle.std.specs.Prelude as std
+use Rattle.std.specs.Prelude.{Some}
 use Prim.Native.Nat.{ℕ, suc, ◌≤◌, ◌<◌}
 use native.Mathlib.Omega.{arith}
 use mathlib.Core.Path.{◌≡◌, refl, sym, ap, subst, ◌∙◌}
@@ -14,7 +16,6 @@ use Rattle.json_path.specs.Answers.{name_means}
 use Rattle.json_path.specs.declared.path.Name.{Name}
 use Rattle.expression.specs.Expression.{Expression, name_of}
 use Rattle.expression.specs.Answers.{as_name_means}
-use Rattle.expression.specs.declared.parameter.AsName.{AsName}
 use Rattle.listing.specs.Tree as T
 use Rattle.template.specs.Kind.{BlockKind, helper_block, raw_block, decorator_block, partial_block, skipped, block_end, Kind, plain, tagged, kinds, kind_of}
 use Rattle.template.specs.State as S
@@ -239,12 +240,12 @@ module _ (t n : ℕ) where
 
 -- ---- names
 
-module _ (text : Bytes) {a : AsName} {x : Name} {u : Bytes} where
-  pub same_names : {b : AsName} {y : Name} {v : Bytes} {r : Bool} → a ≡ AsName.Name x → b ≡ AsName.Name y → u ≡ name_means text x → v ≡ name_means text y → r ≡ same_bytes u v
+module _ (text : Bytes) {a : std.Option Name} {x : Name} {u : Bytes} where
+  pub same_names : {b : std.Option Name} {y : Name} {v : Bytes} {r : Bool} → a ≡ Some x → b ≡ Some y → u ≡ name_means text x → v ≡ name_means text y → r ≡ same_bytes u v
       → r ≡ same_name (as_name_means text a) (as_name_means text b)
   same_names e f g h q = rw (e, f) (q ∙ cc (g, h))
 
-  pub empty_name : a ≡ AsName.Name x → u ≡ name_means text x → eqb (length u) 0 ≡ is_empty_name (as_name_means text a)
+  pub empty_name : a ≡ Some x → u ≡ name_means text x → eqb (length u) 0 ≡ is_empty_name (as_name_means text a)
   empty_name e g = rw (e, ← g) (go u)
     where
       go : (u : Bytes) → eqb (length u) 0 ≡ is_empty u
@@ -255,7 +256,7 @@ neither : (a b : Bool) → (not a && not b) ≡ not (a || b)
 neither true b = refl
 neither false b = refl
 
-module _ (text : Bytes) (t : ℕ) (opened end : AsName) where
+module _ (text : Bytes) (t : ℕ) (opened end : std.Option Name) where
   abbrev helper_asked : State → Expression → Kind → Bool
   helper_asked st x (plain k) = false
   helper_asked st x (tagged k) = helper_name_differs k st x

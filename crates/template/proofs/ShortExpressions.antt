@@ -6,7 +6,8 @@ use native.Mathlib.Omega.{arith}
 use mathlib.Core.Path.{◌≡◌, refl, ap}
 use mathlib.Core.List.{List, [], ◌∷◌, ◌++◌}
 use mathlib.Core.Bool.{Bool, true, false, ◌||◌}
-use mathlib.Core.Option.{Option, none, some}
+use Rattle.std.specs.Prelude.{Option, Some, None}
+use mathlib.Core.Option.{none, some}
 use lib.Dec.{ltb, leb, eqb}
 use lib.ListN.{length, length-append}
 use Rattle.support.specs.Bytes.{Bytes, ascii, if, same_bytes, precedes}
@@ -161,8 +162,8 @@ root_is ss = omega arith
 
 -- a local variable's level and name take no more than its segments
 abbrev Named : ℕ → List Segment → Option (ℕ × Bytes) → Type 0
-Named n ss none = Unit {0}
-Named n ss (some p) = p.0 + length (quoted p.1) ≤ n + segments_bytes ss
+Named n ss None = Unit {0}
+Named n ss (Some p) = p.0 + length (quoted p.1) ≤ n + segments_bytes ss
 
 ups_short : (n : ℕ) (ss : List Segment) → Named n ss (ups_and_name n ss)
 unfolding ups_and_name
@@ -173,8 +174,8 @@ ups_short n (here ∷ ss) = tt
 ups_short n (up ∷ ss) = more (ups_and_name (n + 1) ss) (ups_short (n + 1) ss)
   where
     more : (o : Option (ℕ × Bytes)) → Named (n + 1) ss o → Named n (up ∷ ss) o
-    more none h = tt
-    more (some p) h = omega (arith, up_is ss)
+    more None h = tt
+    more (Some p) h = omega (arith, up_is ss)
 
 local_short : (ss : List Segment) → Named 0 ss (local_name ss)
 unfolding local_name
@@ -185,19 +186,19 @@ local_short (up ∷ ss) = tt
 local_short (here ∷ ss) = more (ups_and_name 0 ss) (ups_short 0 ss)
   where
     more : (o : Option (ℕ × Bytes)) → Named 0 ss o → Named 0 (here ∷ ss) o
-    more none h = tt
-    more (some p) h = omega (arith, here_is ss)
+    more None h = tt
+    more (Some p) h = omega (arith, here_is ss)
 
 path_short : (raw : Bytes) (ss : List Segment) → param_bytes (path (path_of raw ss)) ≤ 12 + length (quoted raw) + segments_bytes ss
 unfolding param_form path_of
 path_short raw ss = go (local_name ss) (local_short ss)
   where
     go : (o : Option (ℕ × Bytes)) → Named 0 ss o
-        → length (write_form (path_form (elim o [ none ↦ relative raw ss | some p ↦ local p.0 p.1 raw ]))) ≤ 12 + length (quoted raw) + segments_bytes ss
-    go none h =
+        → length (write_form (path_form (elim o [ None ↦ relative raw ss | Some p ↦ local p.0 p.1 raw ]))) ≤ 12 + length (quoted raw) + segments_bytes ss
+    go None h =
         let e = ap length (path_bytes raw (segment_forms ss)) in
         omega (arith, around (ascii "[path ") (quoted raw) (ascii "\n" ++ (write_forms (segment_forms ss) ++ ascii "]\n")), around (ascii "\n") (write_forms (segment_forms ss)) (ascii "]\n"))
-    go (some p) h =
+    go (Some p) h =
         let e = ap length (local_bytes p.0 p.1 raw) in
         let rest = quoted p.1 ++ (ascii " " ++ (quoted raw ++ ascii "]\n")) in
         omega (
@@ -290,7 +291,7 @@ module _ (text : Bytes) (short : length text ≤ 16384) where
   segment_short s ss = go (eqb s.tag 36) (eqb s.tag 37) (eqb s.tag 38) (eqb s.tag 39 || eqb s.tag 40) (same_bytes (own text s) (ascii "this"))
     where
       go : (a b c d e : Bool)
-          → segments_bytes (prepend (if a (some root) (if b (some here) (if c (some up) (if d (if e none (some (named (own text s)))) none)))) ss) ≤ 100000 + segments_bytes ss
+          → segments_bytes (prepend (if a (Some root) (if b (Some here) (if c (Some up) (if d (if e None (Some (named (own text s)))) None)))) ss) ≤ 100000 + segments_bytes ss
       go true b c d e = omega (arith, root_is ss)
       go false true c d e = omega (arith, here_is ss)
       go false false true d e = omega (arith, up_is ss)

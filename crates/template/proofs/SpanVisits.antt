@@ -1,4 +1,5 @@
 -- The visit of a walked span: 6 and 7, then what its kind decides; of a tag 8 to 12, then its step. Each way out of the code is one law here.
+use Rattle.std.specs.Prelude as std
 use Prim.Native.Nat.{ℕ, zero, suc, ◌+◌, ◌≤◌, ◌<◌}
 use native.Mathlib.Omega.{arith}
 use mathlib.Core.Path.{◌≡◌, refl, sym, ap, subst, ◌∙◌}
@@ -19,7 +20,7 @@ use Rattle.json_path.proofs.Spans.{all_next}
 use Rattle.expression.specs.Read.{fault_number}
 use Rattle.expression.specs.Answers.{fault_means, NamesIs}
 use Rattle.expression.specs.declared.parameter.Fault.{Fault}
-use Rattle.expression.specs.declared.parameter.AsName.{AsName}
+use Rattle.json_path.specs.declared.path.Name.{Name}
 use Rattle.template.specs.Kind.{Tag, tagged, kind_of}
 use Rattle.template.specs.State.{State, prev_end}
 use Rattle.template.specs.Result as spec
@@ -109,7 +110,7 @@ module _ (text : Bytes) (words : List ℕ) (o : Options) (v : View) (s : Span) (
     reads : TagDone text words (read_tag text the.0 s (spans_from words (s.number + 1))) s.end (s.number + 1) x
     reads = h.means the.0 the.1
 
-    module _ {end : AsName} (named : NamesIs x.name end) {n : Option Reason} (asked : RefusalIs text s.tag v.count v.name end n) where
+    module _ {end : std.Option Name} (named : NamesIs x.name end) {n : Option Reason} (asked : RefusalIs text s.tag v.count v.name end n) where
       asked_as : {st : State} → Visited text v s gap here st → n ≡ refusal_of the.0 st (tag_means text words s.end x)
       asked_as {st} u = asked.means the.0 st (tag_means text words s.end x) the.1 u.tells.count (record { opens = u.tells.name; closes = named.means text words ∙ reads.name })
 
@@ -163,7 +164,7 @@ module _ (text : Bytes) (words : List ℕ) (o : Options) (v : View) (s : Span) (
 
 -- ---- 12, 10 and 11
 
-module _ (text : Bytes) (t c : ℕ) (opened end : AsName) {b : Bool} (over : TooManyIs t c b) where
+module _ (text : Bytes) (t c : ℕ) (opened end : std.Option Name) {b : Bool} (over : TooManyIs t c b) where
   pub refusal_12 : b ≡ true → RefusalIs text t c opened end (Some R.OverLimit)
   refusal_12 q = record { means = λ k st x e n a. rw (← over.means k st e n, q) }
 

@@ -15,9 +15,6 @@ use Rattle.expression.specs.declared.parameter.Parameter.{Parameter}
 use Rattle.expression.specs.declared.parameter.Fault.{Fault}
 use Rattle.expression.specs.declared.parameter.Fault.TheVariants.{Ended}
 use Rattle.expression.specs.declared.parameter.ExpressionSpec.{ExpressionSpec}
-use Rattle.expression.specs.declared.parameter.ExpressionRead.TheVariants as ExpressionRead
-use Rattle.expression.specs.declared.parameter.TildeRead.TheVariants as TildeRead
-use Rattle.expression.specs.declared.parameter.ParamRead.TheVariants as ParamRead
 use Rattle.expression.proofs.Judged.{expression_again}
 use Rattle.template.specs.Kind.{Tag, block_start, invert_tag, invert_chain_tag, expression, html_expression, decorator_expression, partial_expression, block_end, tagged, kinds, kind_of}
 use Rattle.template.specs.TagExpression.{with_omit_pre_ws, read_own, read_chain, read_tag}
@@ -29,7 +26,7 @@ module _ (text : Bytes) (words : List ℕ) (from limit : ℕ) (left : Bool) wher
   abbrev read : Read Expression
   read = read_expression true text max_subexpressions limit (spans_from words from)
 
-  pub own_done : {x : ExpressionSpec} {p : Bool} → ExpressionIs text words read from (ExpressionRead.Done x) → p ≡ (left || x.omit_pre_ws)
+  pub own_done : {x : ExpressionSpec} {p : Bool} → ExpressionIs text words read from (Ok x) → p ≡ (left || x.omit_pre_ws)
       → OwnReadIs text words from limit left (Ok (record { omit_pre_ws = p; omit_pro_ws = x.omit_pro_ws; name = x.name; from = from; next = x.next }))
   unfolding expression_means
   own_done {x} {p} h e =
@@ -59,11 +56,11 @@ module _ (text : Bytes) (words : List ℕ) (s : Span) where
         subst (λ j. TagReadMeans text words (read_tag text j s (spans_from words (s.number + 1))) s.end (s.number + 1) r) i h;
   }
 
-  pub chain_ended : TildeIs words (s.number + 1) TildeRead.Ended → s.tag ≡ 10 → TagReadIs text words s (Err Ended)
+  pub chain_ended : {f : Fault} → TildeIs words (s.number + 1) (Err f) → s.tag ≡ 10 → TagReadIs text words s (Err f)
   unfolding read_chain
   chain_ended t e = chain_is e (rw t.reads)
 
-  module _ {left : Bool} {at : ℕ} (t : TildeIs words (s.number + 1) (TildeRead.Done left at)) where
+  module _ {left : Bool} {at : ℕ} (t : TildeIs words (s.number + 1) (Ok (left, at))) where
     abbrev name : Read Param
     name = read_name true text max_subexpressions (spans_from words at)
 
@@ -71,7 +68,7 @@ module _ (text : Bytes) (words : List ℕ) (s : Span) where
     unfolding read_chain
     chain_no_name n e = chain_is e (rw (t.reads, n))
 
-    module _ {p : Parameter} {next : ℕ} (n : ParamIs text words name (at + 1) (ParamRead.Done p next)) where
+    module _ {p : Parameter} {next : ℕ} (n : ParamIs text words name (at + 1) (Ok (p, next))) where
       chain_reads : chain ≡ mapped (with_omit_pre_ws left) (read_expression true text max_subexpressions s.end (spans_from words next))
       unfolding read_chain
       chain_reads = rw (t.reads, n.reads)

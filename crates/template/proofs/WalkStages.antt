@@ -1,4 +1,5 @@
 -- What a visit means for what the loop keeps: a step that a turn makes, or the answer. Assumes nothing.
+use Rattle.std.specs.Prelude as std
 use Prim.Native.Nat.{ℕ}
 use mathlib.Core.Path.{◌≡◌, sym, subst, ◌∙◌}
 use mathlib.Core.Bool.{Bool, true, false}
@@ -6,7 +7,7 @@ use mathlib.Core.List.{List}
 use Rattle.std.specs.Prelude.{Option, Some, None, Result, Ok, Err}
 use Rattle.support.specs.Bytes.{Bytes}
 use Rattle.json_path.specs.Span.{span_count}
-use Rattle.expression.specs.declared.parameter.AsName.{AsName}
+use Rattle.json_path.specs.declared.path.Name.{Name}
 use Rattle.listing.specs.Reading.{Elem}
 use Rattle.template.specs.State.{root, level, initial}
 use Rattle.template.specs.Result.{accepted, refused}
@@ -33,11 +34,11 @@ use Rattle.template.proofs.Finishing.{RootIs, Ended}
 use Rattle.template.proofs.WalkEnds.{end_open, refused_open, turned_away, list_ends, unfinished_is, too_early, whole, root_whole}
 
 -- what the walk tells a visit
-abbrev pub view_of : Marks → Frame → AsName → ℕ → Here → View
+abbrev pub view_of : Marks → Frame → std.Option Name → ℕ → Here → View
 view_of m x name count h = record { marks = m; opened = x.opened; inverted = x.inverted; name = name; count = count; here = h }
 
 module _ {text : Bytes} {words : List ℕ} {o : Options} where
-  module _ {n : ℕ} {st : List Element} {lv : List Frame} {x : Frame} {m : Marks} {h : Here} {depth len count : ℕ} {closing : Bool} {at : ℕ} (held : Held text words o n st lv x m h depth len count closing at) {name : AsName}
+  module _ {n : ℕ} {st : List Element} {lv : List Frame} {x : Frame} {m : Marks} {h : Here} {depth len count : ℕ} {closing : Bool} {at : ℕ} (held : Held text words o n st lv x m h depth len count closing at) {name : std.Option Name}
       (named : BlockNameIs (element_at st x.block) name) {seen : Result (Option Step) Refusal}
       (look : LookIs text words o (view_of m x name count h) at closing seen) where
     told : closing ≡ false → Tells text (view_of m x name count h) held.now

@@ -1,10 +1,11 @@
 -- What is answered to the questions about a walked span, from every state that the arguments tell of.
+use Rattle.std.specs.Prelude as std
 use Rattle.std.specs.Prelude.{ℕ, ◌≡◌, Bool}
 use Rattle.support.specs.Bytes.{Bytes}
 use Rattle.json_path.specs.Span.{Span}
 use Rattle.expression.specs.Expression.{Expression, name_of}
 use Rattle.expression.specs.Answers.{as_name_means}
-use Rattle.expression.specs.declared.parameter.AsName.{AsName}
+use Rattle.json_path.specs.declared.path.Name.{Name}
 use Rattle.template.specs.Kind.{BlockKind, helper_block, raw_block, decorator_block, partial_block, Tag, tagged, kind_of}
 use Rattle.template.specs.State.{Owner, State, owner, opened_name, open_count}
 use Rattle.template.specs.Nests.{kept_gap, is_raw, takes_else, is_of_kind, nests}
@@ -44,13 +45,13 @@ pub record TooManyIs (tag count : ℕ) (r : Bool) : Type 0 where
   pub means : (k : Tag) (st : State) → kind_of tag ≡ tagged k → count ≡ open_count st → r ≡ too_many_open k st
 
 -- the names are those of the opening tag and of the expression x
-pub record NamesAre (text : Bytes) (opened end : AsName) (st : State) (x : Expression) : Type 0 where
+pub record NamesAre (text : Bytes) (opened end : std.Option Name) (st : State) (x : Expression) : Type 0 where
   pub opens : as_name_means text opened ≡ opened_name (owner st)
   pub closes : as_name_means text end ≡ name_of x.call_of
 
 -- r: 10; 11
-pub record HelperDiffersIs (text : Bytes) (tag : ℕ) (opened end : AsName) (r : Bool) : Type 0 where
+pub record HelperDiffersIs (text : Bytes) (tag : ℕ) (opened end : std.Option Name) (r : Bool) : Type 0 where
   pub means : (k : Tag) (st : State) (x : Expression) → kind_of tag ≡ tagged k → NamesAre text opened end st x → r ≡ helper_name_differs k st x
 
-pub record DecoratorDiffersIs (text : Bytes) (tag : ℕ) (opened end : AsName) (r : Bool) : Type 0 where
+pub record DecoratorDiffersIs (text : Bytes) (tag : ℕ) (opened end : std.Option Name) (r : Bool) : Type 0 where
   pub means : (k : Tag) (st : State) (x : Expression) → kind_of tag ≡ tagged k → NamesAre text opened end st x → r ≡ decorator_name_differs k st x

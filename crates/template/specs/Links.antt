@@ -1,10 +1,11 @@
 -- An element's operations, as values: its links set, its end trimmed, its name.
+use Rattle.std.specs.Prelude as std
 use Rattle.std.specs.Prelude.{ℕ, ◌≡◌, List, Bool, true, false}
 use Rattle.std.proofs.Math.Option.{Option, none}
 use Rattle.support.specs.Bytes.{Bytes, if}
 use Rattle.expression.specs.Expression.{as_name}
 use Rattle.expression.specs.Answers.{param_means, as_name_means}
-use Rattle.expression.specs.declared.parameter.AsName.{AsName}
+use Rattle.json_path.specs.declared.path.Name.{Name}
 use Rattle.expression.specs.declared.parameter.Parameter.{Parameter}
 use Rattle.template.specs.Element.{role_of, has_body}
 use Rattle.template.specs.declared.element.Back.{Back}
@@ -73,5 +74,5 @@ abbrev pub block_name : Bytes → List ℕ → Element → Option Bytes
 block_name text words e = name_for text words e.name e.element
 
 -- r is that name
-pub record BlockNameIs (e : Element) (r : AsName) : Type 0 where
+pub record BlockNameIs (e : Element) (r : std.Option Name) : Type 0 where
   pub means : (text : Bytes) (words : List ℕ) → as_name_means text r ≡ block_name text words e

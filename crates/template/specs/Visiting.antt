@@ -1,4 +1,5 @@
 -- What is decided of a walked span once 6 and 7 are asked, by its kind.
+use Rattle.std.specs.Prelude as std
 use Rattle.std.specs.Prelude.{ℕ, ◌+◌, ◌≤◌, ◌<◌, ◌≡◌, List, Bool, true, false, ◌&&◌, not, Option, Some, None, is_some, Result, Ok, Err, length}
 use Rattle.support.specs.Bytes.{Bytes, if, part}
 use Rattle.support.specs.Utf8.{is_char_boundary}
@@ -7,7 +8,7 @@ use Rattle.support.specs.declared.position.Place as code
 use Rattle.json_path.specs.Span.{Span, span_count, spans_from}
 use Rattle.expression.specs.Expression.{Expression, as_name, name_of}
 use Rattle.expression.specs.Answers.{param_means}
-use Rattle.expression.specs.declared.parameter.AsName.{AsName}
+use Rattle.json_path.specs.declared.path.Name.{Name}
 use Rattle.template.specs.Kind as K
 use Rattle.template.specs.Kind.{Tag, tagged, kind_of}
 use Rattle.template.specs.State as S
@@ -247,5 +248,5 @@ pub record IndentIs (tag : ℕ) (prevent left r : Bool) : Type 0 where
 abbrev pub refusal_of : Tag → State → Expression → Option Reason
 refusal_of k st x = if (too_many_open k st) (Some R.OverLimit) (if (helper_name_differs k st x) (Some R.HelperName) (if (decorator_name_differs k st x) (Some R.DecoratorName) None))
 
-pub record RefusalIs (text : Bytes) (tag count : ℕ) (opened end : AsName) (r : Option Reason) : Type 0 where
+pub record RefusalIs (text : Bytes) (tag count : ℕ) (opened end : std.Option Name) (r : Option Reason) : Type 0 where
   pub means : (k : Tag) (st : State) (x : Expression) → kind_of tag ≡ tagged k → count ≡ open_count st → NamesAre text opened end st x → r ≡ refusal_of k st x

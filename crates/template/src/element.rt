@@ -3,7 +3,7 @@ ghost use Rattle.std.specs.Prelude.{◌≡◌};
 ghost use Rattle.template.specs.Element.{new_element, named_element, role_of, has_body};
 ghost use Rattle.template.specs.Links.{inverse_node, followed_by, set_template, set_inverse, trim_end_of, more_of, BlockNameIs};
 
-use expression::parameter::{AsName, Parameter};
+use expression::parameter::Parameter;
 use json_path::path::Name;
 use support::position::Place;
 
@@ -258,14 +258,13 @@ impl Element {
     }
 
     // The name of a block's opening tag.
-    pub(crate) fn name(self) -> AsName
+    pub(crate) fn name(self) -> Option<Name>
         ensures { BlockNameIs self result }
     {
         if self.has_body() {
-            let n = self.name;
-            return n.as_name();
+            return self.name.as_name();
         }
-        AsName::None
+        None
     }
 }
 

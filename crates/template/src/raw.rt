@@ -9,7 +9,7 @@ ghost use Rattle.template.specs.Element.{Good, RawGood, raw_means, front_trim, b
 ghost use Rattle.template.specs.Raw.{numbered, cut_means, CutGood, CutIs, piece_end, piece_start, from_start, to_end, without_first, without_last, Skipped, start_trim, end_trim};
 
 use crate::element::{Back, Front, RawString};
-use json_path::span::{Escape, escape_at, span_at};
+use json_path::span::{escape_at, span_at};
 use listing::write::{put, write_escaped};
 use support::bytes::{byte_at, part};
 use support::str::{trim_end_blanks, trim_start_blanks};
@@ -30,8 +30,7 @@ fn last_escape(words: &[u32], from: usize, limit: usize) -> usize
 {
     let mut k = from;
     loop {
-        let e = escape_at(words, k);
-        let Escape::Found(x) = e else {
+        let Some(x) = escape_at(words, k) else {
             return k;
         };
         if limit < x.end {

@@ -13,9 +13,9 @@ ghost use Rattle.template.specs.Asked.{KeptIs, RawIs, TakesIs, OfKindIs, NestsIs
 use crate::frame::{Frame, Marks, Opened, Stage};
 use crate::refusal::{Reason, Refusal};
 use crate::visit::Options;
-use expression::parameter::{AsName, Fault};
+use expression::parameter::Fault;
 use json_path::path::Name;
-use json_path::span::{Escape, Span, escape_at, span_at, span_count};
+use json_path::span::{Span, escape_at, span_at, span_count};
 use support::bytes::{byte_at, part, same_bytes};
 use support::utf8::{is_char_boundary, valid_up_to};
 
@@ -226,7 +226,7 @@ pub(crate) fn bad_escapes(
     let mut least = start;
     let mut k = from;
     loop {
-        let Escape::Found(x) = escape_at(words, k) else {
+        let Some(x) = escape_at(words, k) else {
             return false;
         };
         if limit < x.end {
@@ -264,35 +264,33 @@ pub(crate) fn too_many_open(tag: u32, count: usize) -> bool
 }
 
 // Equal names, two without a name included.
-fn same_name(text: &[u8], a: AsName, b: AsName) -> bool
+fn same_name(text: &[u8], a: Option<Name>, b: Option<Name>) -> bool
     ensures { result ≡ same_name (as_name_means text.now a) (as_name_means text.now b) }
 {
-    match a {
-        AsName::None => match b {
-            AsName::None => true,
-            AsName::Name(_) => false,
-        },
-        AsName::Name(x) => match b {
-            AsName::None => false,
-            AsName::Name(y) => {
-                same_bytes(part(text, x.start, x.end), part(text, y.start, y.end))
-            }
-        },
+    match (a, b) {
+        (Some(x), Some(y)) => same_bytes(part(text, x.start, x.end), part(text, y.start, y.end)),
+        (None, None) => true,
+        _ => false,
     }
 }
 
 // There is a name, and it is empty.
-fn is_empty_name(text: &[u8], a: AsName) -> bool
+fn is_empty_name(text: &[u8], a: Option<Name>) -> bool
     ensures { result ≡ is_empty_name (as_name_means text.now a) }
 {
     match a {
-        AsName::None => false,
-        AsName::Name(x) => part(text, x.start, x.end).len() == 0,
+        None => false,
+        Some(x) => part(text, x.start, x.end).is_empty(),
     }
 }
 
 // 10: the end of a helper or raw block has another name.
-pub(crate) fn helper_name_differs(text: &[u8], tag: u32, opened: AsName, end: AsName) -> bool
+pub(crate) fn helper_name_differs(
+    text: &[u8],
+    tag: u32,
+    opened: Option<Name>,
+    end: Option<Name>,
+) -> bool
     ensures { HelperDiffersIs text.now tag opened end result }
 {
     match tag {
@@ -302,7 +300,12 @@ pub(crate) fn helper_name_differs(text: &[u8], tag: u32, opened: AsName, end: As
 }
 
 // 11: the end of a decorator or partial block has another name, and not an empty one.
-pub(crate) fn decorator_name_differs(text: &[u8], tag: u32, opened: AsName, end: AsName) -> bool
+pub(crate) fn decorator_name_differs(
+    text: &[u8],
+    tag: u32,
+    opened: Option<Name>,
+    end: Option<Name>,
+) -> bool
     ensures { DecoratorDiffersIs text.now tag opened end result }
 {
     let same = same_name(text, opened, end);

@@ -3,9 +3,7 @@ ghost use Rattle.std.specs.Prelude.{◌≡◌, ◌<◌};
 ghost use Rattle.json_path.specs.Span.{span_count};
 ghost use Rattle.template.specs.TagRead.{OwnReadIs, TagReadIs};
 
-use expression::parameter::{
-    ExpressionRead, Fault, ParamRead, Parameter, Subexpression, TildeRead,
-};
+use expression::parameter::{Fault, Parameter, Subexpression};
 use expression::parse::{parse_expression, parse_name, parse_tilde};
 use json_path::span::Span;
 
@@ -29,16 +27,14 @@ fn read_own(
 ) -> Result<TagExpression, Fault>
     ensures { OwnReadIs text.now words.now from limit left result }
 {
-    match parse_expression(text, words, from, limit, Subexpression::LIMIT, true) {
-        ExpressionRead::Done(x) => Ok(TagExpression {
-            omit_pre_ws: left || x.omit_pre_ws,
-            omit_pro_ws: x.omit_pro_ws,
-            name: x.name,
-            from,
-            next: x.next,
-        }),
-        ExpressionRead::Failed(f) => Err(f),
-    }
+    let x = parse_expression(text, words, from, limit, Subexpression::LIMIT, true)?;
+    Ok(TagExpression {
+        omit_pre_ws: left || x.omit_pre_ws,
+        omit_pro_ws: x.omit_pro_ws,
+        name: x.name,
+        from,
+        next: x.next,
+    })
 }
 
 // Tag 10 takes a left tilde, a name, then its expression.
@@ -46,13 +42,9 @@ fn read_chain(text: &[u8], words: &[u32], s: Span) -> Result<TagExpression, Faul
     requires { s.number < span_count words.now }
     ensures { s.tag ≡ 10 → TagReadIs text.now words.now s result }
 {
-    let TildeRead::Done(left, at) = parse_tilde(words, s.number + 1) else {
-        return Err(Fault::Ended);
-    };
-    match parse_name(text, words, at, Subexpression::LIMIT, true) {
-        ParamRead::Done(_, next) => read_own(text, words, next, s.end, left),
-        ParamRead::Failed(f) => Err(f),
-    }
+    let (left, at) = parse_tilde(words, s.number + 1)?;
+    let (_, next) = parse_name(text, words, at, Subexpression::LIMIT, true)?;
+    read_own(text, words, next, s.end, left)
 }
 
 pub(crate) fn read_tag(text: &[u8], words: &[u32], s: Span) -> Result<TagExpression, Fault>

@@ -21,8 +21,8 @@ use crate::reason::{
 };
 use crate::refusal::{Reason, Refusal};
 use crate::tag::{TagExpression, read_tag};
-use expression::parameter::AsName;
-use json_path::span::{Next, Span, next_span, span_count};
+use json_path::path::Name;
+use json_path::span::{Span, next_span, span_count};
 use support::bytes::part;
 use support::position::{Place, line_col};
 
@@ -46,7 +46,7 @@ pub struct View {
     pub marks: Marks,
     pub opened: Opened,
     pub inverted: bool,
-    pub name: AsName,
+    pub name: Option<Name>,
     pub count: usize,
     pub here: Here,
 }
@@ -508,7 +508,13 @@ fn step_of(
 }
 
 // 12, 10 or 11, in this order.
-fn refusal_of(text: &[u8], tag: u32, count: usize, opened: AsName, end: AsName) -> Option<Reason>
+fn refusal_of(
+    text: &[u8],
+    tag: u32,
+    count: usize,
+    opened: Option<Name>,
+    end: Option<Name>,
+) -> Option<Reason>
     ensures { RefusalIs text.now tag count opened end result }
 {
     if too_many_open(tag, count) {
@@ -603,7 +609,7 @@ pub(crate) fn visit_span(
     requires lines { LinesAre text.now starts.now ends.now }
     ensures { VisitIs text.now words.now o v at result }
 {
-    let Next::Span(s) = next_span(words, at) else {
+    let Some(s) = next_span(words, at) else {
         return Ok(None);
     };
     let m = v.marks;

@@ -15,7 +15,6 @@ use crate::turn::{
     Gapped, Joined, Open, Plan, Turn, join, plan_of, ref_chain_head, take_gap, turn_of,
 };
 use crate::visit::{Act, Here, Options, Step, View, visit_span};
-use expression::parameter::AsName;
 use json_path::span::span_count;
 use support::bytes::part;
 use support::position::{Place, line_col};

@@ -11,27 +11,22 @@ loop-x-init c = escapes.counting_start c.args.words.now c.args.limit c.args.from
 pub returns-in_default : goal.returns-in_default
 returns-in_default c =
     let loop = c.loop-x in
-    let escape_at = c.escape_at-e in
-    escapes.counting_end loop.invariant (cases.escape_none c.in_default.is escape_at.ensures)
+    escapes.counting_end loop.invariant (cases.escape_none c.in_default.is c.escape_at.ensures)
 
 pub returns-then-limit-x : goal.returns-then-limit-x
 returns-then-limit-x c =
     let loop = c.loop-x in
-    let escape_at = c.escape_at-e in
-    escapes.counting_stop loop.invariant (cases.escape_found c.in-Found.is escape_at.ensures) c.if-limit-x.true
+    escapes.counting_stop loop.invariant (cases.escape_found c.in-Some.is c.escape_at.ensures) c.if-limit-x.true
 
 pub overflow_add-k : goal.overflow_add-k
 overflow_add-k c =
-    let escape_at = c.escape_at-e in
-    let w = cases.escape_found c.in-Found.is escape_at.ensures in omega (arith, ap (λ z. z.number) w.stands, w.inside)
+    let w = cases.escape_found c.in-Some.is c.escape_at.ensures in omega (arith, ap (λ z. z.number) w.stands, w.inside)
 
 pub loop-x-smaller : goal.loop-x-smaller
 loop-x-smaller c =
-    let escape_at = c.escape_at-e in
-    let w = cases.escape_found c.in-Found.is escape_at.ensures in omega (arith, ap (λ z. z.number) w.stands, w.inside)
+    let w = cases.escape_found c.in-Some.is c.escape_at.ensures in omega (arith, ap (λ z. z.number) w.stands, w.inside)
 
 pub loop-x-preserved : goal.loop-x-preserved
 loop-x-preserved c =
     let loop = c.loop-x in
-    let escape_at = c.escape_at-e in
-    escapes.counting_on loop.invariant (cases.escape_found c.in-Found.is escape_at.ensures) c.if-limit-x.false
+    escapes.counting_on loop.invariant (cases.escape_found c.in-Some.is c.escape_at.ensures) c.if-limit-x.false

@@ -16,25 +16,25 @@ returns-in_default c =
 pub returns-then-s-m : goal.returns-then-s-m
 returns-then-s-m c =
     let a = c.args in
-    let w = json.next_found c.in-Span.is c.next_span.ensures in
+    let w = json.next_found c.in-Some.is c.next_span.ensures in
     laws.visit_early a.text.now a.words.now a.o a.v a.at w (omega arith)
 
 pub returns-then-not-nests : goal.returns-then-not-nests
 returns-then-not-nests c =
     let a = c.args in
-    let w = json.next_found c.in-Span.is c.next_span.ensures in
+    let w = json.next_found c.in-Some.is c.next_span.ensures in
     laws.visit_out a.text.now a.words.now a.o a.v a.at w (omega arith) c.kept_gap-gap.ensures c.nests.ensures
     (ap not c.if-not-nests.true)
 
 pub visit_kind-requires : goal.visit_kind-requires
 visit_kind-requires c =
-    let w = json.next_found c.in-Span.is c.next_span.ensures in
+    let w = json.next_found c.in-Some.is c.next_span.ensures in
     record { counted = w.inside; count_fits = c.requires.good.few; no_escape = w.no_escape; lines = c.requires.lines; fits = laws.walked_fits c.requires.good w }
 
 pub returns-in_err-step : goal.returns-in_err-step
 returns-in_err-step c =
     let a = c.args in
-    let w = json.next_found c.in-Span.is c.next_span.ensures in
+    let w = json.next_found c.in-Some.is c.next_span.ensures in
     rw (handed_on c.from_residual.ensures.1)
     (laws.kind_refused a.text.now a.words.now a.o a.v a.at w (omega arith) c.kept_gap-gap.ensures c.nests.ensures c.requires.good (ap not c.if-not-nests.false)
     c.advance-here.ensures c.in_err-step.ensures)
@@ -42,6 +42,6 @@ returns-in_err-step c =
 pub returns : goal.returns
 returns c =
     let a = c.args in
-    let w = json.next_found c.in-Span.is c.next_span.ensures in
+    let w = json.next_found c.in-Some.is c.next_span.ensures in
     laws.kind_steps a.text.now a.words.now a.o a.v a.at w (omega arith) c.kept_gap-gap.ensures c.nests.ensures c.requires.good (ap not c.if-not-nests.false)
     c.advance-here.ensures c.in_ok-step.ensures
