@@ -13,7 +13,6 @@ use Rattle.expression.specs.Readers.{max_subexpressions, read_name, read_express
 use Rattle.expression.specs.Answers.{fault_means, expression_means, ExpressionIs, TildeIs, ParamIs}
 use Rattle.expression.specs.declared.parameter.Parameter.{Parameter}
 use Rattle.expression.specs.declared.parameter.Fault.{Fault}
-use Rattle.expression.specs.declared.parameter.Fault.TheVariants.{Ended}
 use Rattle.expression.specs.declared.parameter.ExpressionSpec.{ExpressionSpec}
 use Rattle.expression.proofs.Judged.{expression_again}
 use Rattle.template.specs.Kind.{Tag, block_start, invert_tag, invert_chain_tag, expression, html_expression, decorator_expression, partial_expression, block_end, tagged, kinds, kind_of}

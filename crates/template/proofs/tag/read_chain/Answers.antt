@@ -1,21 +1,19 @@
 -- By what the readers of the tilde, the name and the expression answer in turn. Assumes nothing.
-use Rattle.expression.proofs.Cases as cases
+use Rattle.template.proofs.Exits.{handed_on}
 use Rattle.template.proofs.TagLaws as laws
 use Rattle.template.proofs.tag.read_chain.Goals as goal
 
-pub returns-in_default : goal.returns-in_default
-returns-in_default c =
+pub returns-in_err-left : goal.returns-in_err-left
+returns-in_err-left c =
     let a = c.args in
-    laws.chain_ended a.text.now a.words.now a.s (cases.tilde_ended c.in_default.is c.parse_tilde.ensures)
+    rw (handed_on c.from_residual.ensures.1) (laws.chain_ended a.text.now a.words.now a.s c.in_err-left.ensures)
 
-pub returns-in-Done-parse_name : goal.returns-in-Done-parse_name
-returns-in-Done-parse_name c =
+pub returns-in_err-next : goal.returns-in_err-next
+returns-in_err-next c =
     let a = c.args in
-    laws.chain_own a.text.now a.words.now a.s (cases.tilde_done c.in-Done.is c.parse_tilde.ensures)
-    (cases.param_done c.in-Done-parse_name.is c.parse_name.ensures) c.read_own.result c.read_own.ensures
+    rw (handed_on c.from_residual-in_err-next.ensures.1) (laws.chain_no_name a.text.now a.words.now a.s c.in_ok-left.ensures c.in_err-next.ensures.reads)
 
-pub returns-in-Failed : goal.returns-in-Failed
-returns-in-Failed c =
+pub returns : goal.returns
+returns c =
     let a = c.args in
-    laws.chain_no_name a.text.now a.words.now a.s (cases.tilde_done c.in-Done.is c.parse_tilde.ensures)
-    (cases.param_failed c.in-Failed.is c.parse_name.ensures)
+    laws.chain_own a.text.now a.words.now a.s c.in_ok-left.ensures c.in_ok-next.ensures c.read_own.result c.read_own.ensures

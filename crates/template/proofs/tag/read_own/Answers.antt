@@ -1,22 +1,19 @@
 -- By what the expression's reader answers. Assumes nothing.
-use Rattle.expression.proofs.Cases as cases
+use Rattle.template.proofs.Exits.{handed_on}
 use Rattle.template.proofs.TagLaws as laws
 use Rattle.template.proofs.tag.read_own.Goals as goal
 
 pub returns-then-left : goal.returns-then-left
 returns-then-left c =
     let a = c.args in
-    laws.own_done a.text.now a.words.now a.from a.limit a.left
-    (cases.expression_done c.in-Done.is c.parse_expression.ensures) (rw c.if-left.true)
+    laws.own_done a.text.now a.words.now a.from a.limit a.left c.in_ok-x.ensures (rw c.if-left.true)
 
 pub returns-else-left : goal.returns-else-left
 returns-else-left c =
     let a = c.args in
-    laws.own_done a.text.now a.words.now a.from a.limit a.left
-    (cases.expression_done c.in-Done.is c.parse_expression.ensures) (rw c.if-left.false)
+    laws.own_done a.text.now a.words.now a.from a.limit a.left c.in_ok-x.ensures (rw c.if-left.false)
 
-pub returns-in-Failed : goal.returns-in-Failed
-returns-in-Failed c =
+pub returns-in_err-x : goal.returns-in_err-x
+returns-in_err-x c =
     let a = c.args in
-    laws.own_failed a.text.now a.words.now a.from a.limit a.left
-    (cases.expression_failed c.in-Failed.is c.parse_expression.ensures)
+    rw (handed_on c.from_residual.ensures.1) (laws.own_failed a.text.now a.words.now a.from a.limit a.left c.in_err-x.ensures.reads)
