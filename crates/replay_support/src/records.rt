@@ -7,28 +7,21 @@ use std::io::{self, Read};
 use support::bytes::part;
 use support::utf8::{is_char_boundary, valid_up_to};
 
-// What `read_byte` answers where the input ends.
-const END: u16 = 256;
-
-fn wide(b: u8) -> u16 {
-    b as u16
-}
-
-fn read_byte(input: &mut impl Read) -> io::Result<u16> {
+// The next byte; none where the input ends.
+fn read_byte(input: &mut impl Read) -> io::Result<Option<u8>> {
     let mut one = [0u8; 1];
     if input.read(&mut one)? == 0 {
-        return Ok(END);
+        return Ok(None);
     }
-    Ok(wide(one[0]))
+    Ok(Some(one[0]))
 }
 
 // Reads a record's bytes, and answers how many there were.
-fn read_bytes(input: &mut impl Read, buf: &mut Buffer, size: u16) -> io::Result<usize> {
+fn read_bytes(input: &mut impl Read, buf: &mut Buffer, size: u8) -> io::Result<usize> {
     let mut n = 0;
     for _ in 0..size {
-        let b = read_byte(input)?;
-        if b < END {
-            n = put(buf, n, b as u8);
+        if let Some(b) = read_byte(input)? {
+            n = put(buf, n, b);
         }
     }
     Ok(n)
@@ -45,10 +38,9 @@ fn fold_boundaries(h: u64, s: &[u8]) -> u64 {
 
 // Writes what is found of one record; false where there is none.
 fn report_record(rt: &impl Print, input: &mut impl Read) -> io::Result<bool> {
-    let size = read_byte(input)?;
-    if size == END {
+    let Some(size) = read_byte(input)? else {
         return Ok(false);
-    }
+    };
     let mut buf = empty();
     let n = read_bytes(input, &mut buf, size)?;
     let s = text(&buf, n);

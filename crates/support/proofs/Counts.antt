@@ -1,13 +1,13 @@
 -- How many bytes are of a class: joined, byte by byte and block by block; and none at all. Assumes nothing.
-use Prim.Native.Nat.{ℕ, zero, suc, ◌+◌, ◌-◌, ◌≤◌, ◌<◌}
+use Prim.Native.Nat.{ℕ, zero, suc, ◌+◌, ◌≤◌, ◌<◌}
 use native.Mathlib.Omega.{arith}
 use native.Mathlib.Numerals.{add-one}
 use mathlib.Core.Path.{◌≡◌, refl, sym, ap, ◌∙◌}
 use mathlib.Core.List.{[], ◌∷◌, ◌++◌}
 use mathlib.Core.Bool.{Bool, true, false}
-use lib.ListN.{length, get_or, take, drop, take-append-drop, length-take, length-drop, drop_of_length-le}
+use lib.ListN.{length, get_or, take, drop, take-append-drop, drop_of_length-le}
 use mir.Val.{bool_byte}
-use lib.Seq.{take-suc, take-add, take_all, drop-cons, drop-length, get_or-take, get_or-drop}
+use lib.Seq.{take-suc, take_all}
 use Rattle.support.specs.Bytes.{Bytes, if}
 use Rattle.support.specs.Code.Blocks.{count}
 
@@ -44,49 +44,15 @@ module _ (f : ℕ → Bool) where
       go true h = omega arith
       go false h = omega arith
 
-  pub one_le : {r : ℕ} (b : ℕ) → r ≡ count f (b ∷ []) → r ≤ 1
-  one_le b e = let h = count_le (b ∷ []) in omega arith
-
   pub count_split : (i : ℕ) (t : Bytes) → count f t ≡ count f (take i t) + count f (drop i t)
   count_split i t = ap (count f) (sym (take-append-drop i t)) ∙ count_append (take i t) (drop i t)
 
-  -- none was counted
-  none_at : (t : Bytes) (i : ℕ) → count f t ≡ 0 → i < length t → f (get_or t i 0) ≡ false
-  unfolding count
-  none_at [] i e h = absurd (omega arith)
-  none_at (b ∷ t) zero e h = go (f b) e
-    where
-      go : (u : Bool) → if u (suc (count f t)) (count f t) ≡ 0 → u ≡ false
-      go true z = absurd (omega arith)
-      go false z = refl
-  none_at (b ∷ t) (suc i) e h = none_at t i (go (f b) e) (omega arith)
-    where
-      go : (u : Bool) → if u (suc (count f t)) (count f t) ≡ 0 → count f t ≡ 0
-      go true z = absurd (omega arith)
-      go false z = z
-
-  -- nor in a block from i to e
-  pub none_between : (t : Bytes) (i e k : ℕ) → count f (take (e - i) (drop i t)) ≡ 0 → e ≤ length t → i ≤ k → k < e → f (get_or t k 0) ≡ false
-  none_between t i e k z h a b =
-      let q : i + (k - i) ≡ k = omega arith in
-      ap f (sym (get_or-take (e - i) (drop i t) (k - i) 0 (omega arith) ∙ get_or-drop i t (k - i) 0 ∙ ap (λ n. get_or t n 0) q))
-      ∙ none_at (take (e - i) (drop i t)) (k - i) z (omega (arith, length-take (e - i) (drop i t), length-drop i t))
-
-  -- nor from i on
+  -- none from i on
   pub none_from : (t : Bytes) (i : ℕ) → ((k : ℕ) → i ≤ k → k < length t → f (get_or t k 0) ≡ false) → count f (drop i t) ≡ 0
   unfolding count
   none_from [] i h = ap (count f) (drop_of_length-le {A = ℕ} [] (omega arith))
   none_from (b ∷ t) zero h = rw (h 0 (omega arith) (omega arith)) (none_from t 0 (λ k a l. h (suc k) (omega arith) (omega arith)))
   none_from (b ∷ t) (suc i) h = none_from t i (λ k a l. h (suc k) (omega arith) (omega arith))
-
-  -- from the end: a byte before those without, and some byte with
-  pub past_end : (t : Bytes) → count f (drop (length t) t) ≡ 0
-  unfolding count
-  past_end t = ap (count f) (drop-length t)
-
-  pub none_before : (t : Bytes) (i : ℕ) → i < length t → f (get_or t i 0) ≡ false → count f (drop (i + 1) t) ≡ 0 → count f (drop i t) ≡ 0
-  unfolding count
-  none_before t i h e z = ap (count f) (drop-cons t i 0 h) ∙ ap (λ u. if u (suc (count f (drop (suc i) t))) (count f (drop (suc i) t))) e ∙ rw (add-one i) at z
 
   pub some_left : (t : Bytes) (i : ℕ) → count f (drop i t) ≡ 0 → 0 < count f t → 0 < i
   some_left t zero z h = absurd (omega arith)

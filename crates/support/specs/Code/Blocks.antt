@@ -1,5 +1,5 @@
 -- What is asked of a block of bytes, where a text is gone through by blocks. None of this is from a paper: the proofs tie it to UTF-8 and to line and column.
-use Rattle.std.specs.Prelude.{ℕ, suc, ◌+◌, ◌≤◌, ◌<◌, min, ◌⊎◌, ◌≡◌, [], ◌∷◌, Bool, true, false, not, eqb, ltb, length, get_or}
+use Rattle.std.specs.Prelude.{ℕ, suc, ◌+◌, ◌≤◌, ◌<◌, min, ◌⊎◌, ◌≡◌, [], ◌∷◌, Bool, true, false, not, eqb, length, get_or}
 use Rattle.support.specs.Bytes.{Bytes, if}
 use Rattle.support.specs.Position.{largest}
 use Rattle.support.specs.Utf8.{is_tail}
@@ -29,10 +29,6 @@ abbrev pub more : ℕ → ℕ → ℕ
 more n k = min (n + k) largest
 
 -- ---- UTF-8
-
--- not ASCII
-abbrev pub is_high : ℕ → Bool
-is_high b = ltb 0x7F b
 
 -- the tail b may follow a, if it is the second byte of a character
 pub record Second (a b : ℕ) : Type 0 where

@@ -1,7 +1,6 @@
 -- The counts so far and those of the bytes left make the text's. Assumes nothing.
-use Prim.Native.Nat.{◌+◌, ◌≤◌}
+use Prim.Native.Nat.{◌+◌}
 use mathlib.Core.Path.{◌≡◌}
-use lib.ListN.{length}
 use Rattle.std.specs.Slice.Iter.{chunks_rest, chunks_size}
 use Rattle.support.specs.Code.Blocks.{count, is_feed, is_first}
 use Rattle.support.proofs.position.count_all.Given as goal

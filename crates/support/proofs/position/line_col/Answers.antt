@@ -1,8 +1,7 @@
 -- A few bytes are passed one by one; of others the LFs and the characters are counted. Assumes nothing.
 use native.Mathlib.Omega.{arith}
-use Prim.Native.Nat.{◌-◌}
 use mathlib.Core.Path.{sym, ap, ◌∙◌}
-use lib.ListN.{length, drop}
+use lib.ListN.{drop}
 use borrow.Author.Tests.{ne_eqb}
 use Rattle.support.specs.Position.{at}
 use Rattle.support.specs.Code.Blocks.{count, more, is_feed, is_first}

@@ -1,5 +1,4 @@
 -- A turn passes one mark; what is left trims to the same. Assumes nothing.
-use native.Mathlib.Omega.{arith}
 use mathlib.Core.Path.{sym, ◌∙◌}
 use lib.ListN.{length}
 use borrow.Author.Tests.{eqb-true}

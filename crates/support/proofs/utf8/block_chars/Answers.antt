@@ -2,7 +2,7 @@
 use Prim.Native.Nat.{◌+◌, ◌-◌}
 use native.Mathlib.Omega.{arith}
 use mathlib.Core.Path.{sym, ap, ◌∙◌}
-use lib.ListN.{drop, length-take, length-drop}
+use lib.ListN.{drop, length-take}
 use lib.Seq.{get_or-take, get_or-drop}
 use Rattle.support.specs.Utf8.{is_tail}
 use Rattle.support.proofs.Utf8Blocks as blocks

@@ -1,10 +1,11 @@
--- `support::white_space::trim_end` meets its contract: the invariant says that White_Space leads back to `e`; a turn passes one character. Assumes nothing.
-use Rattle.support.specs.WhiteSpace.{white_length_back}
-use Rattle.support.proofs.Pieces as pieces
+-- A turn passes one character; what is left trims to the same. Assumes nothing.
+use mathlib.Core.Path.{◌≡◌}
+use lib.ListN.{length}
+use Rattle.support.specs.WhiteSpace.{trim_end}
 use Rattle.support.proofs.white_space.trim_end.Given as goal
 
-abbrev pub invariant-loop-e : goal.invariant-loop-e
-invariant-loop-e l = pieces.ReachedBack white_length_back l.s l.e
+abbrev pub invariant-loop-n : goal.invariant-loop-n
+invariant-loop-n l = trim_end l.left ≡ trim_end l.s
 
-abbrev pub decreases-loop-e : goal.decreases-loop-e
-decreases-loop-e l = l.e
+abbrev pub decreases-loop-n : goal.decreases-loop-n
+decreases-loop-n l = length l.left
