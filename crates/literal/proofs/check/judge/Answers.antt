@@ -11,7 +11,7 @@ use Rattle.literal.proofs.StateLaws as state
 use Rattle.literal.proofs.check.judge.Goals as goal
 
 pub loop-c-init : goal.loop-c-init
-loop-c-init c = let a = c.args in (state.begun_runs (left a.quoted a.text.now a.first), state.begun_room)
+loop-c-init c = let a = c.args in (state.begun_runs (left a.quoted a.text.now a.first) c.none.result c.none.ensures.1, record { deep = c.none.ensures.0; room = tt })
 
 pub feed-requires : goal.feed-requires
 feed-requires c = c.loop-c.invariant.1
