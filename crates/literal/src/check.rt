@@ -1,7 +1,7 @@
 // The verdict on a literal's text.
-ghost use Rattle.std.specs.Prelude.{◌≡◌, [], ◌≤◌, ◌&&◌, leb};
+ghost use Rattle.std.specs.Prelude.{◌≡◌, [], ◌≤◌};
 ghost use Rattle.literal.specs.Literal.{max_digits, max_power, mode_fits, verdict};
-ghost use Rattle.literal.specs.Scan.{ends_number, ends_mode};
+ghost use Rattle.literal.specs.Scan.{ends_mode};
 ghost use Rattle.literal.specs.Requote.{requoted, left};
 ghost use Rattle.literal.specs.Means.{NumberIs, PointIs, ExponentIs, ModeIs, ModeRoom, mode_means, num_means, StateRoom, WithinIs, FedIs, state_runs, verdict_means};
 
@@ -92,17 +92,11 @@ struct State {
     mode: Mode,
 }
 
-fn number_fits(n: usize, e: usize) -> bool
-    ensures { result ≡ leb n max_digits && leb e max_power }
-{
-    n <= Num::DIGITS && e <= Num::POWER
-}
-
 fn mode_fits(mode: Mode) -> bool
     ensures { result ≡ mode_fits (mode_means mode) }
 {
     match mode {
-        Mode::InNumber(_, n, e) => number_fits(n, e),
+        Mode::InNumber(_, n, e) => n <= Num::DIGITS && e <= Num::POWER,
         _ => true,
     }
 }
@@ -131,18 +125,14 @@ fn feed(state: State, c: u8) -> Result<State, LiteralError>
     }
 }
 
-fn number_ends(p: Num) -> bool
-    ensures { result ≡ ends_number (num_means p) }
-{
-    matches!(p, Num::ZeroFirst | Num::Whole | Num::Fraction | Num::Power)
-}
-
 fn mode_ends(mode: Mode) -> bool
     ensures { result ≡ ends_mode (mode_means mode) }
 {
     match mode {
         Mode::After => true,
-        Mode::InNumber(p, _, _) => number_ends(p),
+        Mode::InNumber(p, _, _) => {
+            matches!(p, Num::ZeroFirst | Num::Whole | Num::Fraction | Num::Power)
+        }
         _ => false,
     }
 }
@@ -167,14 +157,11 @@ fn judge(text: &[u8], first: Place, quoted: bool) -> Result<(), LiteralError>
         mode: Mode::Value,
     };
     let mut place = first;
-    loop {
-        let there = past_plain(text, state.mode, place);
-        let Some((c, behind)) = next_byte(text, there, quoted) else {
-            return finish(state);
-        };
+    while let Some((c, behind)) = next_byte(text, past_plain(text, state.mode, place), quoted) {
         state = feed(state, c)?;
         place = behind;
     }
+    finish(state)
 }
 
 // The verdict on a literal's text.
