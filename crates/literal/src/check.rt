@@ -149,6 +149,7 @@ fn finish(state: State) -> Result<(), LiteralError>
 
 // Judges the bytes of a text from a place on, rewritten or not. It stops at the first byte at fault.
 // One loop for both, so that the compiler can put all of `feed` into it.
+// Stays: `quoted`, since a loop for each takes 4.5 million instructions, not 2.4, for 60 KB of JSON.
 fn judge(text: &[u8], first: Place, quoted: bool) -> Result<(), LiteralError>
     ensures { verdict_means result ≡ verdict (left quoted text.now first) }
 {
