@@ -1,30 +1,13 @@
--- The open brackets as the bits of a number: the innermost, one more, one fewer, and that they have room.
+-- The open brackets as the bits of a number: one more, one fewer, and that they have room.
 use Prim.Native.Nat.{ℕ, zero, suc, ◌+◌, ◌-◌, ◌*◌, ◌/◌, ◌%◌, ◌≤◌, ◌<◌}
 use native.Mathlib.Numerals.{add-one}
 use native.Mathlib.Omega.{arith}
 use mathlib.Core.List.{◌∷◌}
 use mathlib.Core.Path.{◌≡◌, refl, ap, subst}
 use lib.ListN.{length, drop}
-use borrow.Author.Tests.{ne_eqb}
-use Rattle.std.specs.Prelude.{Some, None}
-use Rattle.literal.specs.Means.{open_means, top_of}
+use Rattle.literal.specs.Means.{open_means}
 use Rattle.literal.specs.Stack.{stack_means, power_of2}
 use Rattle.literal.specs.declared.mode.Bracket.{Bracket}
-
-pub top_none : (d b : ℕ) → d ≡ 0 → None ≡ top_of (stack_means d b)
-unfolding stack_means
-top_none zero b e = refl
-top_none (suc d) b e = absurd (omega arith)
-
-pub top_object : (d b : ℕ) → (d ≡ 0 → ⊥) → b % 2 ≡ 1 → Some Bracket.Object ≡ top_of (stack_means d b)
-unfolding stack_means
-top_object zero b e f = absurd (e refl)
-top_object (suc d) b e f = rw f
-
-pub top_array : (d b : ℕ) → (d ≡ 0 → ⊥) → (b % 2 ≡ 1 → ⊥) → Some Bracket.Array ≡ top_of (stack_means d b)
-unfolding stack_means
-top_array zero b e f = absurd (e refl)
-top_array (suc d) b e f = rw (ne_eqb (b % 2) 1 f)
 
 pub pushed_array : (d b : ℕ) → stack_means (d + 1) (b * 2) ≡ open_means Bracket.Array ∷ stack_means d b
 unfolding stack_means
