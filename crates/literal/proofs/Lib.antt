@@ -6,7 +6,8 @@ pub mod JsonRuns
 pub mod Onward
 pub mod Decides
 pub mod ProvedSet
-pub mod ActLaws
+pub mod NameLaws
+pub mod StackLaws
 pub mod StateLaws
 pub mod QuoteLaws
 pub mod PlainLaws

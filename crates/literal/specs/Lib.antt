@@ -1,5 +1,6 @@
 pub mod Json
 pub mod Scan
+pub mod Stack
 pub mod Literal
 pub mod Limits
 pub mod Fault

@@ -2,6 +2,7 @@
 // single quotes, gone through as if it were rewritten.
 #![tactic(auto)]
 
+mod brackets;
 pub mod check;
 mod class;
 mod mode;

@@ -17,12 +17,6 @@ fn letter(v: Result<(), LiteralError>) -> u8 {
     }
 }
 
-fn wide(x: u8) -> usize
-    ensures { result < 256 }
-{
-    x as usize
-}
-
 fn write_byte(rt: &impl Print, b: u8) -> io::Result<()> {
     rt.write_all(&[b])
 }
@@ -81,9 +75,9 @@ fn replay_one(rt: &impl Print, input: &mut impl Read) -> io::Result<bool> {
     if got < 2 {
         return Ok(false);
     }
-    let length = wide(head[1]);
+    let [kind, length] = head;
     let mut text = [0u8; 256];
-    replay_text(rt, input, head[0], &mut text[0..length])?;
+    replay_text(rt, input, kind, &mut text[..length as usize])?;
     Ok(true)
 }
 

@@ -11,16 +11,16 @@ use Rattle.literal.proofs.StateLaws as state
 use Rattle.literal.proofs.check.judge.Goals as goal
 
 pub loop-c-init : goal.loop-c-init
-loop-c-init c = let a = c.args in (state.begun_runs (left a.quoted a.text.now a.first), state.begun_room)
+loop-c-init c = let a = c.args in (state.begun_runs (left a.quoted a.text.now a.first) c.none.result c.none.ensures.1, record { deep = c.none.ensures.0; room = tt })
 
 pub feed-requires : goal.feed-requires
 feed-requires c = c.loop-c.invariant.1
 
-pub returns-in_default : goal.returns-in_default
-returns-in_default c =
+pub returns : goal.returns
+returns c =
     let a = c.args in
     let l = c.loop-c in
-    let there = c.past_plain-there in
+    let there = c.past_plain in
     let e = plain.past_runs a.quoted a.text.now l.invariant.0 l.invariant.1 there.ensures in
     c.finish.ensures
     ∙ sym (quote.byte_end a.quoted a.text.now there.result l.state e c.next_byte.ensures c.in_default.is)
@@ -29,7 +29,7 @@ pub returns-in_err-state : goal.returns-in_err-state
 returns-in_err-state c =
     let a = c.args in
     let l = c.loop-c in
-    let there = c.past_plain-there in
+    let there = c.past_plain in
     let e = plain.past_runs a.quoted a.text.now l.invariant.0 l.invariant.1 there.ensures in
     let p = err_from_is_err_and c.from_residual.result c.from_residual.ensures.1 in
     ap verdict_means p.1 ∙ ap error_means p.2
@@ -39,7 +39,7 @@ returns-in_err-state c =
 pub loop-c-smaller : goal.loop-c-smaller
 loop-c-smaller c =
     let a = c.args in
-    let there = c.past_plain-there in
+    let there = c.past_plain in
     let e = ap length (quote.byte_left a.quoted a.text.now there.result c.next_byte.ensures c.in-Some.is) in
     omega (arith, there.ensures.fewer a.quoted)
 
@@ -47,7 +47,7 @@ pub loop-c-preserved : goal.loop-c-preserved
 loop-c-preserved c =
     let a = c.args in
     let l = c.loop-c in
-    let there = c.past_plain-there in
+    let there = c.past_plain in
     let e = plain.past_runs a.quoted a.text.now l.invariant.0 l.invariant.1 there.ensures in
     let x = c.feed.ensures in let y = c.in_ok-state.was in
     (quote.byte_taken a.quoted a.text.now there.result e c.next_byte.ensures c.in-Some.is x y, state.fed_room x y)

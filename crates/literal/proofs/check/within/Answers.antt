@@ -2,19 +2,17 @@
 use mathlib.Core.Path.{sym, ◌∙◌}
 use Rattle.literal.proofs.StateLaws as state
 use Rattle.literal.proofs.check.within.Goals as goal
-
-pub returns-then-depth-gt-DEPTH : goal.returns-then-depth-gt-DEPTH
-returns-then-depth-gt-DEPTH c = state.too_deep c.args.depth c.args.bits c.args.mode c.if-depth-gt-DEPTH.true
+use Rattle.literal.proofs.check.within.Goals.{else-brackets-le-DEPTH-via-then-brackets-le-DEPTH+else-mode_fits, else-brackets-le-DEPTH-via-else-brackets-le-DEPTH}
 
 pub returns-then-mode_fits : goal.returns-then-mode_fits
 returns-then-mode_fits c =
-    let pre = c.requires in
     let a = c.args in
-    state.in_limits a.depth a.bits a.mode c.if-depth-gt-DEPTH.false pre
-    (sym c.mode_fits.ensures ∙ c.if-mode_fits.true)
+    state.in_limits a.brackets a.mode c.if-brackets-le-DEPTH.true (sym c.mode_fits.ensures ∙ c.if-mode_fits.true)
 
 pub returns : goal.returns
 returns c =
     let a = c.args in
-    state.too_long a.depth a.bits a.mode c.if-depth-gt-DEPTH.false
-    (sym c.mode_fits.ensures ∙ c.if-mode_fits.false)
+    elim c.else-brackets-le-DEPTH.branch [
+      | else-brackets-le-DEPTH-via-then-brackets-le-DEPTH+else-mode_fits w ↦ state.too_long a.brackets a.mode w.if-brackets-le-DEPTH.true (sym w.mode_fits.ensures ∙ w.if-mode_fits.false)
+      | else-brackets-le-DEPTH-via-else-brackets-le-DEPTH w ↦ state.too_deep a.brackets a.mode w.if-brackets-le-DEPTH.false
+    ]
