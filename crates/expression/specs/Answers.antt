@@ -1,5 +1,5 @@
 -- What the answers of the readers mean: each value of the code in terms of the specification's, each case of an enum in terms of its readers.
-use Rattle.std.specs.Prelude.{ℕ, ◌+◌, ◌≤◌, ◌<◌, ◌≡◌, List, [], ◌∷◌, Bool, true, false, Some, None, Result, Ok, Err}
+use Rattle.std.specs.Prelude.{ℕ, ◌+◌, ◌≤◌, ◌<◌, ◌≡◌, List, [], ◌∷◌, Bool, true, false, Some, None, Result, Ok, Err, IfErr}
 use Rattle.std.specs.Prelude as std
 use Rattle.std.proofs.Math.Option.{Option, none, some}
 use Rattle.support.specs.Bytes.{Bytes, if, part}
@@ -94,11 +94,6 @@ pub record ParamIs (text : Bytes) (words : List ℕ) (o : Read Param) (low : ℕ
 
 -- ---- tildes, block parameters, a parameter's own span
 
--- the only fault is that the list ended
-abbrev pub OnlyEnded : {A : Type 0} → Result A Fault → Type 0
-OnlyEnded (Ok x) = Unit {0}
-OnlyEnded (Err f) = f ≡ Ended
-
 -- whether the tilde stands there, or the list ended
 abbrev pub tilde_read_means : List ℕ → Result (Bool × ℕ) Fault → Read Bool
 tilde_read_means words (Ok (left, next)) = done left (spans_from words next)
@@ -109,11 +104,11 @@ abbrev pub TildeNext : ℕ → Result (Bool × ℕ) Fault → Type 0
 TildeNext low (Ok (left, next)) = low ≤ next
 TildeNext low (Err f) = Unit {0}
 
--- r is the left tilde read from number `at` on
+-- r is the left tilde read from number `at` on; the only fault is that the list ended
 pub record TildeIs (words : List ℕ) (at : ℕ) (r : Result (Bool × ℕ) Fault) : Type 0 where
   pub reads : read_tilde (spans_from words at) ≡ tilde_read_means words r
   pub onward : TildeNext at r
-  pub faults : OnlyEnded r
+  pub faults : IfErr r (λ f. f ≡ Ended)
 
 -- one name or two
 abbrev pub block_param_means : Bytes → BlockParam → spec.BlockParam
@@ -135,11 +130,11 @@ abbrev pub BlockNext : ℕ → Result (BlockParam × ℕ) Fault → Type 0
 BlockNext low (Ok (b, next)) = low < next
 BlockNext low (Err f) = Unit {0}
 
--- r is the block parameter read from number `at` on, in any text
+-- r is the block parameter read from number `at` on, in any text; the only fault is that the list ended
 pub record BlockIs (words : List ℕ) (limit at : ℕ) (r : Result (BlockParam × ℕ) Fault) : Type 0 where
   pub reads : (text : Bytes) → read_block_param text limit (spans_from words at) ≡ block_read_means text words r
   pub onward : BlockNext at r
-  pub faults : OnlyEnded r
+  pub faults : IfErr r (λ f. f ≡ Ended)
 
 -- the span, or the list ended
 abbrev pub own_read_means : List ℕ → std.Option Span → Read Span
