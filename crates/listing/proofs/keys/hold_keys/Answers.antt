@@ -14,9 +14,6 @@ loop-x-init c =
 pub hold_part-requires : goal.hold_part-requires
 hold_part-requires c = let g = c.loop-x.invariant.0 in (g.fits, g.order)
 
-pub shape_of-held-in_err-count-in-Part : goal.shape_of-held-in_err-count-in-Part
-shape_of-held-in_err-count-in-Part c = c.hold_part.auto.held ∙ c.loop-x.invariant.1
-
 pub returns-in_err-count-in-Part : goal.returns-in_err-count-in-Part
 returns-in_err-count-in-Part c =
     let i = cases.part_found c.in-Part.is c.next_part-p.ensures in
@@ -33,14 +30,8 @@ loop-x-preserved c =
       c.hold_part.auto.held ∙ l.invariant.1,
     )
 
-pub shape_of-held-in-End : goal.shape_of-held-in-End
-shape_of-held-in-End c = c.loop-x.invariant.1
-
 pub returns-in-End : goal.returns-in-End
 returns-in-End c = record { means = laws.holding_ends c.loop-x.invariant.0 (cases.part_none c.in-End.is c.next_part-p.ensures) }
-
-pub shape_of-held-in-Failed : goal.shape_of-held-in-Failed
-shape_of-held-in-Failed c = c.loop-x.invariant.1
 
 pub returns-in-Failed : goal.returns-in-Failed
 returns-in-Failed c =

@@ -1,6 +1,6 @@
 -- The writers of parameters, keys and calls meet their contracts: what is written falls in size from call to call, and the loops write what is left. Assumes nothing.
 use native.Mathlib.Omega.{arith}
-use mathlib.Core.Path.{ap, ◌∙◌}
+use mathlib.Core.Path.{ap}
 use Rattle.listing.specs.Listing.{param_form}
 use Rattle.expression.specs.Answers.{param_means}
 use Rattle.expression.proofs.Lists.{params_read_lem, keys_read_lem}
@@ -27,14 +27,6 @@ write_call-write_keys-requires t c =
     let a = c.args in
     let e = params.call_size_lem a.text.now a.words.now a.name a.parts c.requires in (omega (arith, c.decreases), c.requires)
 
-pub write_call-shape_of-out : goal.write_call-shape_of-out
-write_call-shape_of-out t c =
-    let write_params = c.write_params-q in
-    let write_param = c.write_param-p in
-    writes.written_length c.write_keys.ensures
-    ∙ writes.written_length write_params.ensures
-    ∙ writes.written_length write_param.ensures
-
 pub write_call-returns : goal.write_call-returns
 write_call-returns t c =
     let good = c.well_formed in
@@ -45,14 +37,6 @@ write_call-returns t c =
 
 pub write_hash-write_param-q-requires : goal.write_hash-write_param-q-requires
 write_hash-write_param-q-requires t c = (omega (arith, c.decreases), tt)
-
-pub write_hash-shape_of-out : goal.write_hash-shape_of-out
-write_hash-shape_of-out t c =
-    let write_param = c.write_param-q in
-    let write_key = c.write_key-p in
-    writes.written_length c.put_bytes.ensures
-    ∙ writes.written_length write_param.ensures
-    ∙ writes.written_length write_key.ensures
 
 pub write_hash-returns : goal.write_hash-returns
 write_hash-returns t c =
@@ -67,9 +51,6 @@ pub write_held-loop-i-init : goal.write_held-loop-i-init
 write_held-loop-i-init t c =
     let a = c.args in
     held_writes.held_begins a.text.now a.words.now a.depth a.held.now a.out.now a.at (omega arith)
-
-pub write_held-shape_of-out-in_default : goal.write_held-shape_of-out-in_default
-write_held-shape_of-out-in_default t c = c.loop-i.invariant.same
 
 pub write_held-returns-in_default : goal.write_held-returns-in_default
 write_held-returns-in_default t c =
@@ -94,9 +75,6 @@ write_held-loop-i-preserved t c =
     let l = c.loop-i in
     held_writes.held_on l.invariant c.loop-i-test.true c.in-Done.is c.parse_hash-r.ensures (omega (arith, c.well_formed.0.0)) c.write_hash-p.ensures
 
-pub write_held-shape_of-out : goal.write_held-shape_of-out
-write_held-shape_of-out t c = c.loop-i.invariant.same
-
 pub write_held-returns : goal.write_held-returns
 write_held-returns t c = held_writes.held_done c.loop-i.invariant c.loop-i-test.false
 
@@ -105,9 +83,6 @@ write_keys-hold_keys-requires t c = c.requires
 
 pub write_keys-write_many_keys-requires : goal.write_keys-write_many_keys-requires
 write_keys-write_many_keys-requires t c = (omega (arith, c.decreases), c.requires)
-
-pub write_keys-shape_of-out-in_default : goal.write_keys-shape_of-out-in_default
-write_keys-shape_of-out-in_default t c = writes.written_length c.write_many_keys.ensures
 
 pub write_keys-returns-in_default : goal.write_keys-returns-in_default
 write_keys-returns-in_default t c = c.write_many_keys.ensures
@@ -120,9 +95,6 @@ pub write_keys-write_held-requires : goal.write_keys-write_held-requires
 write_keys-write_held-requires t c =
     let k = c.in-Some.ensures.means in
     (omega (arith, c.decreases, held_writes.held_size k), held_writes.all_read k)
-
-pub write_keys-shape_of-out : goal.write_keys-shape_of-out
-write_keys-shape_of-out t c = writes.written_length c.write_held.ensures
 
 pub write_keys-returns : goal.write_keys-returns
 write_keys-returns t c =
@@ -147,16 +119,10 @@ pub write_least_keys-loop-h-preserved : goal.write_least_keys-loop-h-preserved
 write_least_keys-loop-h-preserved t c =
     params.keys_on c.loop-h.invariant (cases.key_found c.in-Key.is c.next_key-n.ensures) (omega (arith, c.well_formed.0.0)) c.write_hash-p.ensures
 
-pub write_least_keys-shape_of-out-in-End : goal.write_least_keys-shape_of-out-in-End
-write_least_keys-shape_of-out-in-End t c = c.loop-h.invariant.same
-
 pub write_least_keys-returns-in-End : goal.write_least_keys-returns-in-End
 write_least_keys-returns-in-End t c =
     let l = c.loop-h in
     params.keys_done l.invariant (cases.key_none c.in-End.is c.next_key-n.ensures)
-
-pub write_least_keys-shape_of-out-in-Failed : goal.write_least_keys-shape_of-out-in-Failed
-write_least_keys-shape_of-out-in-Failed t c = c.loop-h.invariant.same
 
 pub write_least_keys-returns-in-Failed : goal.write_least_keys-returns-in-Failed
 write_least_keys-returns-in-Failed t c =
@@ -168,9 +134,6 @@ write_many_keys-hold_keys-requires t c = c.requires
 
 pub write_many_keys-write_least_keys-requires : goal.write_many_keys-write_least_keys-requires
 write_many_keys-write_least_keys-requires t c = (omega (arith, c.decreases), c.requires)
-
-pub write_many_keys-shape_of-out-in_default : goal.write_many_keys-shape_of-out-in_default
-write_many_keys-shape_of-out-in_default t c = writes.written_length c.write_least_keys.ensures
 
 pub write_many_keys-returns-in_default : goal.write_many_keys-returns-in_default
 write_many_keys-returns-in_default t c = c.write_least_keys.ensures
@@ -184,9 +147,6 @@ write_many_keys-write_held-requires t c =
     let k = c.in-Some.ensures.means in
     (omega (arith, c.decreases, held_writes.held_size k), held_writes.all_read k)
 
-pub write_many_keys-shape_of-out : goal.write_many_keys-shape_of-out
-write_many_keys-shape_of-out t c = writes.written_length c.write_held.ensures
-
 pub write_many_keys-returns : goal.write_many_keys-returns
 write_many_keys-returns t c =
     held_writes.held_written c.in-Some.ensures.means c.write_held.ensures
@@ -197,17 +157,11 @@ write_param-write_subexpression-requires t c =
     let e = ap (λ z. param_size (param_means a.text.now a.words.now z)) c.in-Subexpression.is in
     (omega (arith, c.decreases), tt)
 
-pub write_param-shape_of-out-in-Name : goal.write_param-shape_of-out-in-Name
-write_param-shape_of-out-in-Name t c = writes.written_length c.write_name.ensures
-
 pub write_param-returns-in-Name : goal.write_param-returns-in-Name
 unfolding param_means
 write_param-returns-in-Name t c =
     let a = c.args in
     params.param_is a.text.now a.words.now c.in-Name.is c.write_name.ensures
-
-pub write_param-shape_of-out-in-Path : goal.write_param-shape_of-out-in-Path
-write_param-shape_of-out-in-Path t c = writes.written_length c.write_path.ensures
 
 pub write_param-returns-in-Path : goal.write_param-returns-in-Path
 unfolding param_means param_form
@@ -215,17 +169,11 @@ write_param-returns-in-Path t c =
     let a = c.args in
     params.param_is a.text.now a.words.now c.in-Path.is c.write_path.ensures
 
-pub write_param-shape_of-out-in-Literal : goal.write_param-shape_of-out-in-Literal
-write_param-shape_of-out-in-Literal t c = writes.written_length c.write_literal.ensures
-
 pub write_param-returns-in-Literal : goal.write_param-returns-in-Literal
 unfolding param_means
 write_param-returns-in-Literal t c =
     let a = c.args in
     params.param_is a.text.now a.words.now c.in-Literal.is c.write_literal.ensures
-
-pub write_param-shape_of-out-in-Subexpression : goal.write_param-shape_of-out-in-Subexpression
-write_param-shape_of-out-in-Subexpression t c = writes.written_length c.write_subexpression.ensures
 
 pub write_param-returns-in-Subexpression : goal.write_param-returns-in-Subexpression
 write_param-returns-in-Subexpression t c =
@@ -257,24 +205,15 @@ write_params-loop-v-preserved t c =
     params.params_on l.invariant (cases.step_found c.in-Param.is next_param.ensures) (omega (arith, good.0.0))
     c.write_param-p.ensures
 
-pub write_params-shape_of-out-in-End : goal.write_params-shape_of-out-in-End
-write_params-shape_of-out-in-End t c = c.loop-v.invariant.same
-
 pub write_params-returns-in-End : goal.write_params-returns-in-End
 write_params-returns-in-End t c =
     let l = c.loop-v in
     params.params_done l.invariant (cases.step_none c.in-End.is c.next_param-n.ensures)
 
-pub write_params-shape_of-out-in-Failed : goal.write_params-shape_of-out-in-Failed
-write_params-shape_of-out-in-Failed t c = c.loop-v.invariant.same
-
 pub write_params-returns-in-Failed : goal.write_params-returns-in-Failed
 write_params-returns-in-Failed t c =
     let l = c.loop-v in
     absurd (params_read_lem l.invariant.reads (cases.step_failed c.in-Failed.is c.next_param-n.ensures))
-
-pub write_subexpression-shape_of-out-in_default : goal.write_subexpression-shape_of-out-in_default
-write_subexpression-shape_of-out-in_default t c = writes.written_length c.put_bytes.ensures
 
 pub write_subexpression-returns-in_default : goal.write_subexpression-returns-in_default
 write_subexpression-returns-in_default t c =
@@ -287,14 +226,6 @@ write_subexpression-write_call-q-requires t c =
     let enter = c.enter-r in
     let i = (cases.entered c.in-Done.is enter.ensures) in let e = params.sub_size i in
     (omega (arith, c.decreases), i.linked.parts)
-
-pub write_subexpression-shape_of-out : goal.write_subexpression-shape_of-out
-write_subexpression-shape_of-out t c =
-    let write_call = c.write_call-q in
-    let put_bytes = c.put_bytes-p in
-    writes.written_length c.put_bytes-2.ensures
-    ∙ writes.written_length write_call.ensures
-    ∙ writes.written_length put_bytes.ensures
 
 pub write_subexpression-returns : goal.write_subexpression-returns
 write_subexpression-returns t c =

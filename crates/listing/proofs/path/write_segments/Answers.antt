@@ -7,9 +7,6 @@ use Rattle.listing.proofs.path.write_segments.Goals as goal
 pub loop-segment-init : goal.loop-segment-init
 loop-segment-init c = paths.onward_start (omega arith)
 
-pub shape_of-out-in_default : goal.shape_of-out-in_default
-shape_of-out-in_default c = c.loop-segment.invariant.same
-
 pub returns-in_default : goal.returns-in_default
 returns-in_default c =
     let l = c.loop-segment in

@@ -1,6 +1,6 @@
 -- `listing::requote::write_requoted_each` meets its contract: the invariant says that what writes the bytes left writes the whole. Assumes nothing.
 use native.Mathlib.Omega.{arith}
-use mathlib.Core.Path.{ap, ◌∙◌}
+use mathlib.Core.Path.{ap}
 use lib.ListN.{length}
 use Rattle.listing.proofs.RequoteWrites as requotes
 use Rattle.listing.proofs.Writes as writes
@@ -8,12 +8,6 @@ use Rattle.listing.proofs.requote.write_requoted_each.Goals as goal
 
 pub loop-b-init : goal.loop-b-init
 loop-b-init c = requotes.onward_start (omega (arith, c.put-p.ensures.next))
-
-pub shape_of-out-in_default : goal.shape_of-out-in_default
-shape_of-out-in_default c =
-    let l = c.loop-b in
-    let put = c.put-p in
-    writes.written_length c.put.ensures ∙ l.invariant.same ∙ writes.written_length put.ensures
 
 pub returns-in_default : goal.returns-in_default
 returns-in_default c =
