@@ -9,7 +9,7 @@ use mathlib.Core.List.{[], ◌∷◌, ◌++◌}
 use mathlib.Core.Bool.{Bool, true, false, ◌&&◌}
 use lib.Dec.{eqb}
 use lib.ListN.{length, get_or, take, drop, length-append, length-take, length-drop, get_or-eq_default}
-use lib.Seq.{get_or-take, get_or-drop}
+use lib.Seq.{get_or-take, get_or-drop, drop-drop}
 use borrow.Author.Tests.{eqb-true, ne_eqb}
 use Rattle.support.specs.Bytes.{Bytes, if}
 use Rattle.support.proofs.Table.{and_right}
@@ -135,3 +135,34 @@ unfolding quoted escaped escape
 quoted_cost s =
     let t = escape_double (unescape_single s) in
     omega (arith, inner_cost s, ap length (escaped_append t (0x22 ∷ [])), length-append (escaped t) (escaped (0x22 ∷ [])), length-append (escaped (t ++ (0x22 ∷ []))) (0x22 ∷ []))
+
+-- ---- the bytes passed, i of them, and those that are left, at least one
+
+pub record Behind (P : ℕ → Type 0) (s rest : Bytes) : Type 0 where
+  pub passed : ℕ
+  pub left : rest ≡ drop passed s
+  pub whole : passed + length rest ≡ length s
+  pub some : 1 ≤ length rest
+  pub holds : P passed
+
+pub behind_none : (P : ℕ → Type 0) {s rest : Bytes} → rest ≡ s → 1 ≤ length s → P 0 → Behind P s rest
+behind_none P {s} e h p = record { passed = 0; left = e; whole = omega (arith, ap length e); some = omega (arith, ap length e); holds = p }
+
+-- m more are passed
+pub behind_more : {P : ℕ → Type 0} {s rest left : Bytes} (Q : ℕ → Type 0) (m : ℕ) → left ≡ drop m rest → m < length rest
+    → (g : Behind P s rest) → Q (g.passed + m) → Behind Q s left
+behind_more {s = s} {rest = rest} {left = left} Q m e h g q =
+    record {
+      passed = g.passed + m;
+      left = e ∙ ap (drop m) g.left ∙ drop-drop m g.passed s;
+      whole = omega (arith, g.whole, ap length e, length-drop m rest);
+      some = omega (arith, ap length e, length-drop m rest);
+      holds = q;
+    }
+
+-- a block of m bytes and one more
+pub cost_run : {rest block : Bytes} (s : Bytes) (i m : ℕ) → rest ≡ drop i s → block ≡ take (m + 1) rest → length block ≡ m + 1 → cost_to s (i + m) ≡ cost_to s i + cost_to block (length block - 1)
+cost_run {block = block} s i m e p h =
+    let q : m ≡ length block - 1 = omega arith in
+    let w : block ≡ take (m + 1) (drop i s) = p ∙ ap (take (m + 1)) e in
+    cost_add s i (m + 1) m (omega arith) ∙ ap (λ z. cost_to s i + cost_to z m) (sym w) ∙ ap (λ z. cost_to s i + cost_to block z) q

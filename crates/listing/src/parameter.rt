@@ -137,6 +137,7 @@ fn write_keys(out: &mut [u8], at: usize, text: &[u8], words: &[u32], parts: Part
 }
 
 // A key takes three spans: a list of so many spans as are allowed has no more keys than these cells.
+// Stays: one function for any number of cells has no statement yet, as functions of a cycle may not differ in a const parameter.
 #[cycle(writers)]
 fn write_many_keys(out: &mut [u8], at: usize, text: &[u8], words: &[u32], parts: Parts) -> usize
     requires { Readable (parts_read false text.now words.now parts) }

@@ -31,10 +31,13 @@ pub fn put_bytes(out: &mut [u8], at: usize, bytes: &[u8]) -> usize
     at.saturating_add(bytes.len())
 }
 
-// A backslash and what stands behind it.
+// A backslash and what stands behind it. Where no byte can be stored they are only counted.
 fn put_escape(out: &mut [u8], at: usize, letter: u8) -> usize
     ensures { Written (0x5C ∷ letter ∷ []) out.old at out.new result }
 {
+    if out.len() <= at {
+        return at.saturating_add(2);
+    }
     let p = put(out, at, b'\\');
     put(out, p, letter)
 }

@@ -1,11 +1,7 @@
 -- `listing::children::write_decorator` meets its contract: the call that its link gives, or an empty one. Assumes nothing.
 use Rattle.expression.proofs.Cases as cases
 use Rattle.listing.proofs.ChildWrites as children
-use Rattle.listing.proofs.Writes as writes
 use Rattle.listing.proofs.children.write_decorator.Goals as goal
-
-pub shape_of-out-in_default : goal.shape_of-out-in_default
-shape_of-out-in_default c = writes.written_length c.put_bytes.ensures
 
 pub returns-in_default : goal.returns-in_default
 returns-in_default c =
@@ -15,9 +11,6 @@ returns-in_default c =
 pub write_call-requires : goal.write_call-requires
 write_call-requires c =
     (cases.expression_done c.in-Ok.is c.parse_expression.ensures).linked.parts
-
-pub shape_of-out : goal.shape_of-out
-shape_of-out c = writes.written_length c.write_call.ensures
 
 pub returns : goal.returns
 returns c =

@@ -1,13 +1,8 @@
 -- `listing::children::write_helper` meets its contract: the call that its link gives and the block parameters behind it. Assumes nothing.
 use native.Mathlib.Omega.{arith}
-use mathlib.Core.Path.{◌∙◌}
 use Rattle.expression.proofs.Cases as cases
 use Rattle.listing.proofs.ChildWrites as children
-use Rattle.listing.proofs.Writes as writes
 use Rattle.listing.proofs.children.write_helper.Goals as goal
-
-pub shape_of-out-in_default : goal.shape_of-out-in_default
-shape_of-out-in_default c = writes.written_length c.put_bytes.ensures
 
 pub returns-in_default : goal.returns-in_default
 returns-in_default c =
@@ -17,11 +12,6 @@ returns-in_default c =
 pub write_call-p-requires : goal.write_call-p-requires
 write_call-p-requires c =
     (cases.expression_done c.in-Ok.is c.parse_expression.ensures).linked.parts
-
-pub shape_of-out : goal.shape_of-out
-shape_of-out c =
-    let write_call = c.write_call-p in
-    writes.written_length c.write_block_param.ensures ∙ writes.written_length write_call.ensures
 
 pub returns : goal.returns
 returns c =

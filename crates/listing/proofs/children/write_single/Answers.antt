@@ -1,18 +1,8 @@
 -- `listing::children::write_single` meets its contract: the pieces of the form, one after the other. Assumes nothing.
 use native.Mathlib.Omega.{arith}
-use mathlib.Core.Path.{◌∙◌}
 use Rattle.listing.proofs.ChildWrites as children
-use Rattle.listing.proofs.Writes as writes
 use Rattle.listing.proofs.PathWrites as paths
 use Rattle.listing.proofs.children.write_single.Goals as goal
-
-pub shape_of-out : goal.shape_of-out
-shape_of-out c =
-    let write_part = c.write_part-q in
-    let put_bytes = c.put_bytes-p in
-    writes.written_length c.put_bytes.ensures
-    ∙ writes.written_length write_part.ensures
-    ∙ writes.written_length put_bytes.ensures
 
 pub returns : goal.returns
 returns c =

@@ -14,9 +14,6 @@ loop-x-init c =
 pub hold_part-requires : goal.hold_part-requires
 hold_part-requires c = let g = c.loop-x.invariant.0 in (g.fits, g.order)
 
-pub shape_of-held-in_err-count : goal.shape_of-held-in_err-count
-shape_of-held-in_err-count c = c.hold_part.auto.held ∙ c.loop-x.invariant.1
-
 pub returns-in_err-count : goal.returns-in_err-count
 returns-in_err-count c =
     let i = (rw c.in-Ok-Some.field-0-is at c.in-Ok-Some.ensures).means in

@@ -27,14 +27,6 @@ write_call-write_keys-requires t c =
     let a = c.args in
     let e = params.call_size_lem a.text.now a.words.now a.name a.parts c.requires in (omega (arith, c.decreases), c.requires)
 
-pub write_call-shape_of-out : goal.write_call-shape_of-out
-write_call-shape_of-out t c =
-    let write_params = c.write_params-q in
-    let write_param = c.write_param-p in
-    writes.written_length c.write_keys.ensures
-    ∙ writes.written_length write_params.ensures
-    ∙ writes.written_length write_param.ensures
-
 pub write_call-returns : goal.write_call-returns
 write_call-returns t c =
     let good = c.well_formed in
@@ -45,14 +37,6 @@ write_call-returns t c =
 
 pub write_hash-write_param-q-requires : goal.write_hash-write_param-q-requires
 write_hash-write_param-q-requires t c = (omega (arith, c.decreases), tt)
-
-pub write_hash-shape_of-out : goal.write_hash-shape_of-out
-write_hash-shape_of-out t c =
-    let write_param = c.write_param-q in
-    let write_key = c.write_key-p in
-    writes.written_length c.put_bytes.ensures
-    ∙ writes.written_length write_param.ensures
-    ∙ writes.written_length write_key.ensures
 
 pub write_hash-returns : goal.write_hash-returns
 write_hash-returns t c =
@@ -67,9 +51,6 @@ pub write_held-loop-i-init : goal.write_held-loop-i-init
 write_held-loop-i-init t c =
     let a = c.args in
     held_writes.held_begins a.text.now a.words.now a.depth a.held.now a.out.now a.at (omega arith)
-
-pub write_held-shape_of-out-in_default : goal.write_held-shape_of-out-in_default
-write_held-shape_of-out-in_default t c = c.loop-i.invariant.same
 
 pub write_held-returns-in_default : goal.write_held-returns-in_default
 write_held-returns-in_default t c =
@@ -94,9 +75,6 @@ write_held-loop-i-preserved t c =
     let l = c.loop-i in
     held_writes.held_on l.invariant c.loop-i-test.true c.in-Ok.is c.parse_hash.ensures (omega (arith, c.well_formed.0.0)) c.write_hash-p.ensures
 
-pub write_held-shape_of-out : goal.write_held-shape_of-out
-write_held-shape_of-out t c = c.loop-i.invariant.same
-
 pub write_held-returns : goal.write_held-returns
 write_held-returns t c = held_writes.held_done c.loop-i.invariant c.loop-i-test.false
 
@@ -105,9 +83,6 @@ write_keys-hold_keys-requires t c = c.requires
 
 pub write_keys-write_many_keys-requires : goal.write_keys-write_many_keys-requires
 write_keys-write_many_keys-requires t c = (omega (arith, c.decreases), c.requires)
-
-pub write_keys-shape_of-out-in_default : goal.write_keys-shape_of-out-in_default
-write_keys-shape_of-out-in_default t c = writes.written_length c.write_many_keys.ensures
 
 pub write_keys-returns-in_default : goal.write_keys-returns-in_default
 write_keys-returns-in_default t c = c.write_many_keys.ensures
@@ -120,9 +95,6 @@ pub write_keys-write_held-requires : goal.write_keys-write_held-requires
 write_keys-write_held-requires t c =
     let k = c.in-Some.ensures.means in
     (omega (arith, c.decreases, held_writes.held_size k), held_writes.all_read k)
-
-pub write_keys-shape_of-out : goal.write_keys-shape_of-out
-write_keys-shape_of-out t c = writes.written_length c.write_held.ensures
 
 pub write_keys-returns : goal.write_keys-returns
 write_keys-returns t c =
@@ -156,9 +128,6 @@ write_many_keys-hold_keys-requires t c = c.requires
 pub write_many_keys-write_least_keys-requires : goal.write_many_keys-write_least_keys-requires
 write_many_keys-write_least_keys-requires t c = (omega (arith, c.decreases), c.requires)
 
-pub write_many_keys-shape_of-out-in_default : goal.write_many_keys-shape_of-out-in_default
-write_many_keys-shape_of-out-in_default t c = writes.written_length c.write_least_keys.ensures
-
 pub write_many_keys-returns-in_default : goal.write_many_keys-returns-in_default
 write_many_keys-returns-in_default t c = c.write_least_keys.ensures
 
@@ -171,9 +140,6 @@ write_many_keys-write_held-requires t c =
     let k = c.in-Some.ensures.means in
     (omega (arith, c.decreases, held_writes.held_size k), held_writes.all_read k)
 
-pub write_many_keys-shape_of-out : goal.write_many_keys-shape_of-out
-write_many_keys-shape_of-out t c = writes.written_length c.write_held.ensures
-
 pub write_many_keys-returns : goal.write_many_keys-returns
 write_many_keys-returns t c =
     held_writes.held_written c.in-Some.ensures.means c.write_held.ensures
@@ -184,17 +150,11 @@ write_param-write_subexpression-requires t c =
     let e = ap (λ z. param_size (param_means a.text.now a.words.now z)) c.in-Subexpression.is in
     (omega (arith, c.decreases), tt)
 
-pub write_param-shape_of-out-in-Name : goal.write_param-shape_of-out-in-Name
-write_param-shape_of-out-in-Name t c = writes.written_length c.write_name.ensures
-
 pub write_param-returns-in-Name : goal.write_param-returns-in-Name
 unfolding param_means
 write_param-returns-in-Name t c =
     let a = c.args in
     params.param_is a.text.now a.words.now c.in-Name.is c.write_name.ensures
-
-pub write_param-shape_of-out-in-Path : goal.write_param-shape_of-out-in-Path
-write_param-shape_of-out-in-Path t c = writes.written_length c.write_path.ensures
 
 pub write_param-returns-in-Path : goal.write_param-returns-in-Path
 unfolding param_means param_form
@@ -202,17 +162,11 @@ write_param-returns-in-Path t c =
     let a = c.args in
     params.param_is a.text.now a.words.now c.in-Path.is c.write_path.ensures
 
-pub write_param-shape_of-out-in-Literal : goal.write_param-shape_of-out-in-Literal
-write_param-shape_of-out-in-Literal t c = writes.written_length c.write_literal.ensures
-
 pub write_param-returns-in-Literal : goal.write_param-returns-in-Literal
 unfolding param_means
 write_param-returns-in-Literal t c =
     let a = c.args in
     params.param_is a.text.now a.words.now c.in-Literal.is c.write_literal.ensures
-
-pub write_param-shape_of-out-in-Subexpression : goal.write_param-shape_of-out-in-Subexpression
-write_param-shape_of-out-in-Subexpression t c = writes.written_length c.write_subexpression.ensures
 
 pub write_param-returns-in-Subexpression : goal.write_param-returns-in-Subexpression
 write_param-returns-in-Subexpression t c =
@@ -244,9 +198,6 @@ write_params-loop-v-preserved t c =
 pub write_params-returns-in_default : goal.write_params-returns-in_default
 write_params-returns-in_default t c = params.params_done c.loop-v.invariant (search rules)
 
-pub write_subexpression-shape_of-out-in_default : goal.write_subexpression-shape_of-out-in_default
-write_subexpression-shape_of-out-in_default t c = writes.written_length c.put_bytes.ensures
-
 pub write_subexpression-returns-in_default : goal.write_subexpression-returns-in_default
 write_subexpression-returns-in_default t c =
     let a = c.args in
@@ -256,14 +207,6 @@ pub write_subexpression-write_call-q-requires : goal.write_subexpression-write_c
 write_subexpression-write_call-q-requires t c =
     let i = (cases.entered c.in-Ok.is c.enter.ensures) in let e = params.sub_size i in
     (omega (arith, c.decreases), i.linked.parts)
-
-pub write_subexpression-shape_of-out : goal.write_subexpression-shape_of-out
-write_subexpression-shape_of-out t c =
-    let write_call = c.write_call-q in
-    let put_bytes = c.put_bytes-p in
-    writes.written_length c.put_bytes-2.ensures
-    ∙ writes.written_length write_call.ensures
-    ∙ writes.written_length put_bytes.ensures
 
 pub write_subexpression-returns : goal.write_subexpression-returns
 write_subexpression-returns t c =

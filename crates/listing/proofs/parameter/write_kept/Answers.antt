@@ -1,19 +1,12 @@
 -- `listing::parameter::write_kept` meets its contract: by whether the text was rewritten. Assumes nothing.
 use Rattle.listing.proofs.ParamWrites as params
-use Rattle.listing.proofs.Writes as writes
 use Rattle.listing.proofs.parameter.write_kept.Goals as goal
-
-pub shape_of-out-then-rewritten : goal.shape_of-out-then-rewritten
-shape_of-out-then-rewritten c = writes.written_length c.write_requoted.ensures
 
 pub returns-then-rewritten : goal.returns-then-rewritten
 returns-then-rewritten c =
     let a = c.args in
     let part = c.part in
     params.kept_rewritten a.text.now a.l c.if-rewritten.true part.ensures c.write_requoted.ensures
-
-pub shape_of-out : goal.shape_of-out
-shape_of-out c = writes.written_length c.write_part.ensures
 
 pub returns : goal.returns
 returns c =

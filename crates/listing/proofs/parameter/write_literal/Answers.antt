@@ -1,18 +1,8 @@
 -- `listing::parameter::write_literal` meets its contract: the pieces of the form, one after the other. Assumes nothing.
 use native.Mathlib.Omega.{arith}
-use mathlib.Core.Path.{◌∙◌}
 use Rattle.listing.proofs.ParamWrites as params
 use Rattle.listing.proofs.PathWrites as paths
-use Rattle.listing.proofs.Writes as writes
 use Rattle.listing.proofs.parameter.write_literal.Goals as goal
-
-pub shape_of-out : goal.shape_of-out
-shape_of-out c =
-    let write_kept = c.write_kept-q in
-    let put_bytes = c.put_bytes-p in
-    writes.written_length c.put_bytes.ensures
-    ∙ writes.written_length write_kept.ensures
-    ∙ writes.written_length put_bytes.ensures
 
 pub returns : goal.returns
 returns c =

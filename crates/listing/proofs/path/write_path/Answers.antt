@@ -1,18 +1,11 @@
 -- `listing::path::write_path` meets its contract: a form for each case of the path. Assumes nothing.
 use Rattle.listing.proofs.PathWrites as paths
-use Rattle.listing.proofs.Writes as writes
 use Rattle.listing.proofs.path.write_path.Goals as goal
-
-pub shape_of-out-in-Relative : goal.shape_of-out-in-Relative
-shape_of-out-in-Relative c = writes.written_length c.write_relative.ensures
 
 pub returns-in-Relative : goal.returns-in-Relative
 returns-in-Relative c =
     let a = c.args in
     paths.path_is a.text.now a.words.now a.path _ c.in-Relative.is c.write_relative.ensures
-
-pub shape_of-out-in-Local : goal.shape_of-out-in-Local
-shape_of-out-in-Local c = writes.written_length c.write_local.ensures
 
 pub returns-in-Local : goal.returns-in-Local
 returns-in-Local c =

@@ -1,21 +1,7 @@
 -- `listing::path::write_relative` meets its contract: the pieces of the form, one after the other. Assumes nothing.
 use native.Mathlib.Omega.{arith}
-use mathlib.Core.Path.{◌∙◌}
 use Rattle.listing.proofs.PathWrites as paths
-use Rattle.listing.proofs.Writes as writes
 use Rattle.listing.proofs.path.write_relative.Goals as goal
-
-pub shape_of-out : goal.shape_of-out
-shape_of-out c =
-    let write_segments = c.write_segments-t in
-    let put_bytes2 = c.put_bytes-s in
-    let write_part = c.write_part-q in
-    let put_bytes = c.put_bytes-p in
-    writes.written_length c.put_bytes.ensures
-    ∙ writes.written_length write_segments.ensures
-    ∙ writes.written_length put_bytes2.ensures
-    ∙ writes.written_length write_part.ensures
-    ∙ writes.written_length put_bytes.ensures
 
 pub returns : goal.returns
 returns c =

@@ -1,13 +1,8 @@
 -- `listing::path::write_segment` meets its contract: a form for each case of the segment. Assumes nothing.
 use native.Mathlib.Omega.{arith}
-use mathlib.Core.Path.{◌∙◌}
 use Rattle.listing.specs.Form.{write_form, write_head, write_fields}
 use Rattle.listing.proofs.PathWrites as paths
-use Rattle.listing.proofs.Writes as writes
 use Rattle.listing.proofs.path.write_segment.Goals as goal
-
-pub shape_of-out-in-Root : goal.shape_of-out-in-Root
-shape_of-out-in-Root c = writes.written_length c.put_bytes.ensures
 
 pub returns-in-Root : goal.returns-in-Root
 unfolding write_form write_head write_fields
@@ -15,31 +10,17 @@ returns-in-Root c =
     let a = c.args in
     paths.segment_is a.text.now a.segment _ c.in-Root.is c.put_bytes.ensures
 
-pub shape_of-out-in-Here : goal.shape_of-out-in-Here
-shape_of-out-in-Here c = writes.written_length c.put_bytes-in-Here.ensures
-
 pub returns-in-Here : goal.returns-in-Here
 unfolding write_form write_head write_fields
 returns-in-Here c =
     let a = c.args in
     paths.segment_is a.text.now a.segment _ c.in-Here.is c.put_bytes-in-Here.ensures
 
-pub shape_of-out-in-Up : goal.shape_of-out-in-Up
-shape_of-out-in-Up c = writes.written_length c.put_bytes-in-Up.ensures
-
 pub returns-in-Up : goal.returns-in-Up
 unfolding write_form write_head write_fields
 returns-in-Up c =
     let a = c.args in
     paths.segment_is a.text.now a.segment _ c.in-Up.is c.put_bytes-in-Up.ensures
-
-pub shape_of-out-in-Named : goal.shape_of-out-in-Named
-shape_of-out-in-Named c =
-    let write_part = c.write_part-q in
-    let put_bytes4 = c.put_bytes-p in
-    writes.written_length c.put_bytes-in-Named.ensures
-    ∙ writes.written_length write_part.ensures
-    ∙ writes.written_length put_bytes4.ensures
 
 pub returns-in-Named : goal.returns-in-Named
 returns-in-Named c =

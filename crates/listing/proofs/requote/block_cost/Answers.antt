@@ -12,13 +12,11 @@ unfolding cost_to
 loop-i-init c = omega arith
 
 pub loop-i-preserved : goal.loop-i-preserved
-loop-i-preserved c =
-    let block = c.args.block.now in
-    (omega arith, omega arith, omega (arith, counts.cost_more block c.loop-i.i))
+loop-i-preserved c = (omega arith, omega (arith, counts.cost_more c.args.block.now c.loop-i.i))
 
 pub returns : goal.returns
 returns c =
     let l = c.loop-i in
     let block = c.args.block.now in
     let q : l.i ≡ length block - 1 = omega arith in
-    l.invariant.2 ∙ ap (cost_to block) q
+    l.invariant.1 ∙ ap (cost_to block) q

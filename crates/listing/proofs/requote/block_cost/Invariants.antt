@@ -1,11 +1,8 @@
 -- `listing::requote::block_cost` meets its contract: the invariant says that `n` is what the first `i` bytes take, at most four each. Assumes nothing.
-use Prim.Native.Nat.{◌*◌, ◌≤◌, ◌-◌}
+use Prim.Native.Nat.{◌*◌, ◌≤◌}
 use mathlib.Core.Path.{◌≡◌}
 use Rattle.listing.specs.Code.Cost.{cost_to}
 use Rattle.listing.proofs.requote.block_cost.Given as goal
 
 abbrev pub invariant-loop-i : goal.invariant-loop-i
-invariant-loop-i l = (l.i ≤ l.last) × (l.n ≤ 4 * l.i) × (l.n ≡ cost_to l.block l.i)
-
-abbrev pub decreases-loop-i : goal.decreases-loop-i
-decreases-loop-i l = l.last - l.i
+invariant-loop-i l = (l.n ≤ 4 * l.i) × (l.n ≡ cost_to l.block l.i)

@@ -1,7 +1,6 @@
 -- `listing::write::write_decimal` meets its contract. The measure is the number. Its digits are those of its tenth, written by the call, and
 -- its last digit. Assumes nothing.
 use native.Mathlib.Omega.{arith}
-use mathlib.Core.Path.{◌∙◌}
 use Rattle.listing.proofs.Writes as writes
 use Rattle.listing.proofs.write.+write_decimal.Goals as goal
 
@@ -11,9 +10,6 @@ overflow_cast-n t c = omega (arith, c.if-n-lt10.true)
 pub overflow_add-n : goal.overflow_add-n
 overflow_add-n t c = omega (arith, c.if-n-lt10.true)
 
-pub shape_of-out-then-n-lt10 : goal.shape_of-out-then-n-lt10
-shape_of-out-then-n-lt10 t c = writes.written_length c.put.ensures
-
 pub returns-then-n-lt10 : goal.returns-then-n-lt10
 returns-then-n-lt10 t c =
     let a = c.args in
@@ -21,11 +17,6 @@ returns-then-n-lt10 t c =
 
 pub write_decimal-p-requires : goal.write_decimal-p-requires
 write_decimal-p-requires t c = (omega (arith, c.decreases, c.if-n-lt10.false), tt)
-
-pub shape_of-out : goal.shape_of-out
-shape_of-out t c =
-    let write-decimal = c.write_decimal-p in
-    writes.written_length c.put-2.ensures ∙ writes.written_length write-decimal.ensures
 
 pub returns : goal.returns
 returns t c =

@@ -13,8 +13,5 @@ loop-b-preserved c =
     let l = c.loop-b in
     writes.escaped_more c.args.text.now l.b-index (omega arith) (omega arith) l.invariant c.put_escaped-p.ensures
 
-pub shape_of-out : goal.shape_of-out
-shape_of-out c = writes.written_length c.loop-b.invariant
-
 pub returns : goal.returns
 returns c = writes.escaped_all c.args.text.now c.loop-b.b-index (omega arith) c.loop-b.invariant

@@ -10,8 +10,5 @@ returns-then-out-at c =
     writes.written_out (escaped a.text.now) a.out.now a.at c.saturating_add-then-out-at.result (omega arith)
     (omega (arith, c.saturating_add-then-out-at.ensures, c.escapes.ensures, c.saturating_add.ensures))
 
-pub shape_of-out : goal.shape_of-out
-shape_of-out c = writes.written_length c.write_blocks.ensures
-
 pub returns : goal.returns
 returns c = c.write_blocks.ensures

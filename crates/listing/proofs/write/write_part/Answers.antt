@@ -1,9 +1,5 @@
 -- `listing::write::write_part` meets its contract: the quoted text is the part. Assumes nothing.
-use Rattle.listing.proofs.Writes as writes
 use Rattle.listing.proofs.write.write_part.Goals as goal
-
-pub shape_of-out : goal.shape_of-out
-shape_of-out c = writes.written_length c.write_quoted.ensures
 
 pub returns : goal.returns
 returns c =
