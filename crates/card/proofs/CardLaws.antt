@@ -7,15 +7,14 @@ use mathlib.Core.Option.{none, some}
 use lib.ListN.{length, get_or, drop, set, length-append, length-drop}
 use lib.Seq.{sets, length-sets}
 use borrow.Author.Tests.{le-leb, lt-leb}
+use Rattle.std.specs.Prelude.{Option, Some, None}
 use Rattle.support.specs.Bytes.{Bytes}
 use Rattle.support.proofs.ByteLaws.{no_bytes}
 use Rattle.card.specs.Card.{max_bytes, said}
 use Rattle.card.specs.Read.{Read, read, other, read_mark, read_field, Lines, lines, read_lines, read_text, read_card, line_words, line_rest}
 use Rattle.card.specs.Answers.{LineIs, LinesIs, answer_of, words_of, CardIs}
-use Rattle.card.specs.declared.read.Line.{Line}
 use Rattle.card.specs.declared.read.SpanLine as declared
 use Rattle.card.specs.declared.read.Lines as declared_lines
-use Rattle.card.specs.declared.read.CardRead.TheVariants as CardRead
 use Rattle.card.proofs.Lines.{lines_read, lines_other, words_prepend, rest_prepend}
 use Rattle.card.proofs.Stores.{stored_more}
 use Rattle.card.proofs.FieldLaws.{Found, mark_past, mark_other, mark_here}
@@ -46,14 +45,14 @@ pub storing_starts : (s : Bytes) (from : ℕ) (l : List ℕ) → from ≤ length
 storing_starts s from l h = record { ws = []; count = refl; stored = refl; words = refl; rest = refl; short = omega arith; inside = h }
 
 module _ {s : Bytes} {from : ℕ} {l m : List ℕ} {n at : ℕ} (g : Storing s from l m n at) where
-  pub storing_ends : {x : Line} → x ≡ Line.None → LineIs s at x → LinesIs s from l m (record { words = n; next = at })
+  pub storing_ends : {x : Option declared.SpanLine} → x ≡ None → LineIs s at x → LinesIs s from l m (record { words = n; next = at })
   storing_ends {x} e h =
       let o = lines_other (drop at s) (sym (subst (λ z. LineIs s at z) e h).means) in
       let w : line_words (read_lines (drop from s)) ≡ g.ws = g.words ∙ ap (λ z. g.ws ++ line_words z) o ∙ append-nil g.ws in
       record { stored = g.stored ∙ ap (sets l 0) (sym w); words = sym g.count ∙ ap length (sym w); rest = g.rest ∙ ap line_rest o }
 
-  module _ {x : Line} {p : declared.SpanLine} (e : x ≡ Line.Span p) (h : LineIs s at x) where
-    line : LineIs s at (Line.Span p)
+  module _ {x : Option declared.SpanLine} {p : declared.SpanLine} (e : x ≡ Some p) (h : LineIs s at x) where
+    line : LineIs s at (Some p)
     line = subst (λ z. LineIs s at z) e h
 
     pub line_least : at + 6 ≤ p.next
@@ -107,14 +106,14 @@ module _ (s : Bytes) where
     card_options o r e = rw (le-leb (length s) max_bytes h, e, read_card)
 
 -- other input: nothing is stored
-untouched : (s : Bytes) (l : List ℕ) → read_card s ≡ none → CardIs s l l CardRead.Other
+untouched : (s : Bytes) (l : List ℕ) → read_card s ≡ none → CardIs s l l None
 untouched s l e = record { answer = ap (answer_of s) (sym e); stored = ap (λ x. sets l 0 (words_of x)) (sym e) }
 
-pub too_long : (s : Bytes) (l : List ℕ) → max_bytes < length s → CardIs s l l CardRead.Other
+pub too_long : (s : Bytes) (l : List ℕ) → max_bytes < length s → CardIs s l l None
 too_long s l h = untouched s l (card_long s h)
 
 module _ {s : Bytes} (h : length s ≤ max_bytes) where
-  pub no_options : (l : List ℕ) → read_field 10 s ≡ other → CardIs s l l CardRead.Other
+  pub no_options : (l : List ℕ) → read_field 10 s ≡ other → CardIs s l l None
   no_options l e = untouched s l (card_no_options s h e)
 
   -- the span lines are read over no words
@@ -127,19 +126,19 @@ module _ {s : Bytes} (h : length s ≤ max_bytes) where
       same : m ++ l ≡ l
       same = ap (◌++ l) (no_bytes m (ap length g.stored ∙ length-sets [] 0 (line_words (read_lines (drop from s)))))
 
-      no_text : read_mark 10 (drop x.next s) ≡ other → CardIs s l (m ++ l) CardRead.Other
+      no_text : read_mark 10 (drop x.next s) ≡ other → CardIs s l (m ++ l) None
       no_text e = rw same (untouched s l (card_options s h o (drop from s) f.reads ∙ text_other o (read_lines (drop from s)) (text_at e)))
 
-      pub ended : length s ≤ x.next → CardIs s l (m ++ l) CardRead.Other
+      pub ended : length s ≤ x.next → CardIs s l (m ++ l) None
       ended e = no_text (mark_past 10 s x.next e)
 
       module _ (k : x.next < length s) where
-        pub not_empty : (get_or s x.next 0 ≡ 10 → ⊥) → CardIs s l (m ++ l) CardRead.Other
+        pub not_empty : (get_or s x.next 0 ≡ 10 → ⊥) → CardIs s l (m ++ l) None
         not_empty e = no_text (mark_other 10 s x.next k e)
 
         -- and then over l
         pub card_found : get_or s x.next 0 ≡ 10 → {n : List ℕ} {y : declared_lines.Lines} → LinesIs s from (m ++ l) n y
-            → CardIs s l n (CardRead.Card (record { options = o; words = y.words; text = x.next + 1 }))
+            → CardIs s l n (Some (record { options = o; words = y.words; text = x.next + 1 }))
         card_found e {n} {y} i =
             let text : Bytes = drop (x.next + 1) s in
             let read_as = text_read o (read_lines (drop from s)) (get_or s x.next 0) text (text_at (mark_here 10 s x.next k e)) in
@@ -148,8 +147,8 @@ module _ {s : Bytes} (h : length s ≤ max_bytes) where
             let t : x.next + 1 ≡ length s - length text = omega arith in
             record {
               answer =
-                  ap (λ z. CardRead.Card (record { options = o; words = z; text = x.next + 1 })) i.words
-                  ∙ ap (λ z. CardRead.Card (record { options = o; words = length (line_words (read_lines (drop from s))); text = z })) t
+                  ap (λ z. Some (record { options = o; words = z; text = x.next + 1 })) i.words
+                  ∙ ap (λ z. Some (record { options = o; words = length (line_words (read_lines (drop from s))); text = z })) t
                   ∙ ap (answer_of s) (sym found);
               stored = i.stored ∙ ap (λ z. sets z 0 (line_words (read_lines (drop from s)))) same ∙ ap (λ z. sets l 0 (words_of z)) (sym found);
             }

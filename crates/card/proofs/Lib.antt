@@ -7,3 +7,4 @@ mod Stores
 mod FieldLaws
 mod CardLaws
 mod StoredLaws
+mod Inputs

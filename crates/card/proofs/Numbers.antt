@@ -8,7 +8,9 @@ use mathlib.Core.List.{[], ◌∷◌, ◌++◌}
 use lib.Dec.{leb}
 use lib.ListN.{length, get_or, drop, drop_of_length-le}
 use borrow.Author.Tests.{leb-true, leb-false}
-use Rattle.support.specs.Bytes.{Bytes}
+use Rattle.std.specs.Char.{is_ascii_digit}
+use Rattle.std.proofs.lemmas.List.{take_rest}
+use Rattle.support.specs.Bytes.{Bytes, part}
 use Rattle.support.proofs.Table.{and_left, and_right}
 use Rattle.support.proofs.WhiteLaws.{at_offset}
 use Rattle.card.specs.Number.{is_digit, all_digits, leading_digits, decimal_from, decimal, largest}
@@ -24,6 +26,11 @@ module _ (c : ℕ) (e : is_digit c ≡ true) where
   pub digit_most : c ≤ 57
   unfolding is_digit
   digit_most = leb-true c 57 (and_right (leb 48 c) (leb c 57) e)
+
+-- std's test is the same
+pub digit_same : (c : ℕ) → is_ascii_digit c ≡ is_digit c
+unfolding is_digit
+digit_same c = refl
 
 -- ---- the digits that bytes start with
 
@@ -113,26 +120,30 @@ pub few_fit : (ds : Bytes) → all_digits ds ≡ true → length ds ≤ 5 → mi
 unfolding nines
 few_fit ds e h = let k : decimal ds ≤ 99999 = few 5 0 0 ds e h (omega arith) in omega arith
 
--- ---- the loop over digits: what is read from i on, after `value`, is what is read from `at` on
+-- ---- the loop over digits: what is read from place i on, after `value`, is what is read from the start on
 
-pub record Reading (s : Bytes) (at value i : ℕ) : Type 0 where
-  pub same : min (decimal (leading_digits (drop at s))) largest ≡ min (decimal_from value (leading_digits (drop i s))) largest
-  pub end : at + length (leading_digits (drop at s)) ≡ i + length (leading_digits (drop i s))
+pub record Reading (s : Bytes) (value i : ℕ) : Type 0 where
+  pub same : min (decimal (leading_digits s)) largest ≡ min (decimal_from value (leading_digits (drop i s))) largest
+  pub end : length (leading_digits s) ≡ i + length (leading_digits (drop i s))
   pub fits : value ≤ largest
 
-pub reading_starts : (s : Bytes) (at : ℕ) → Reading s at 0 at
-reading_starts s at = record { same = refl; end = refl; fits = omega arith }
+pub reading_starts : (s : Bytes) → Reading s 0 0
+reading_starts s = record { same = refl; end = omega arith; fits = omega arith }
 
-module _ {s : Bytes} {at value i : ℕ} (g : Reading s at value i) where
-  pub reading_ends : leading_digits (drop i s) ≡ [] → DigitsIs s at (record { value = value; end = i })
+module _ {s : Bytes} {value i : ℕ} (g : Reading s value i) where
+  -- s is what is left of t from `at` on
+  pub reading_ends : {t : Bytes} {at end : ℕ} → s ≡ part t at (length t) → end ≡ at + i → leading_digits (drop i s) ≡ [] → DigitsIs t at (record { value = value; end = end })
   unfolding decimal_from
-  reading_ends e =
-      let h : min (decimal_from value (leading_digits (drop i s))) largest ≡ min value largest = rw e in
-      let k : length (leading_digits (drop i s)) ≡ 0 = ap length e in
-      record { value = (let q = g.same in omega arith); end = (let q = g.end in omega arith) }
+  reading_ends {t} {at} p q e =
+      let r : drop at t ≡ s = sym (p ∙ take_rest t at) in
+      let same : min (decimal (leading_digits (drop at t))) largest ≡ min value largest =
+      ap (λ z. min (decimal (leading_digits z)) largest) r ∙ g.same ∙ ap (λ z. min (decimal_from value z) largest) e in
+      let end = ap (λ z. length (leading_digits z)) r ∙ g.end in
+      let none : length (leading_digits (drop i s)) ≡ 0 = ap length e in
+      record { value = omega (arith, g.fits); end = omega arith }
 
   module _ (h : i < length s) (e : is_digit (get_or s i 0) ≡ true) where
-    pub reading_goes_on : (w : ℕ) → w ≡ min (value * 10 + (get_or s i 0 - 48)) largest → Reading s at w (i + 1)
+    pub reading_goes_on : (w : ℕ) → w ≡ min (value * 10 + (get_or s i 0 - 48)) largest → Reading s w (i + 1)
     unfolding decimal_from
     reading_goes_on w q =
         let d = digits_on s i h e in

@@ -1,15 +1,19 @@
 -- The laws for the code that reads stored records: the line at an offset, and the numbers of a line. Assumes nothing.
 use Prim.Native.Nat.{ℕ, zero, suc, ◌+◌, ◌-◌, ◌≤◌, ◌<◌, min}
 use native.Mathlib.Omega.{arith}
-use mathlib.Core.Path.{◌≡◌, refl, sym, ap, ◌∙◌}
+use mathlib.Core.Path.{◌≡◌, refl, sym, ap, subst, ◌∙◌}
 use mathlib.Core.Bool.{Bool, true, false}
 use mathlib.Core.List.{List, [], ◌∷◌, ◌++◌, append_assoc}
 use lib.Dec.{eqb}
-use lib.ListN.{length, get_or, take, drop, set, length-append, length-drop, drop_of_length-le}
+use lib.ListN.{length, take, drop, set, length-append, length-drop, drop_of_length-le}
 use lib.Seq.{drop-drop, length-take-le, sets, length-sets}
-use borrow.Author.Tests.{eq-eqb, ne_eqb}
+use Rattle.std.specs.Prelude.{◌==◌, cond, not, nat_lt, Option, Some, None, unwrap_or}
+use Rattle.std.specs.List.{position, position_or_len}
+use Rattle.std.proofs.lemmas.List.{take_rest}
+use Rattle.std.proofs.lemmas.List.Recursion.{is_position_or_len}
+use Rattle.std.proofs.lemmas.List.Sums.{prefix_len-le-length}
+use borrow.Author.Tests.{ltb-false}
 use Rattle.support.specs.Bytes.{Bytes, part}
-use Rattle.support.proofs.WhiteLaws.{at_offset}
 use Rattle.card.specs.Number.{leading_digits}
 use Rattle.card.specs.Answers.{DigitsIs}
 use Rattle.card.specs.Stored.{first_line, first_number, after_number, numbers_by, numbers, FirstLineIs, WordsIs}
@@ -27,17 +31,29 @@ first_other : (c : ℕ) (s : Bytes) → eqb c 10 ≡ false → first_line (c ∷
 unfolding first_line
 first_other c s e = rw (e, first_line)
 
-module _ (s : Bytes) (i : ℕ) where
-  pub line_past : length s ≤ i → first_line (drop i s) ≡ []
-  unfolding first_line
-  line_past h = ap first_line (drop_of_length-le s h)
+first_cases : (c : ℕ) (s : Bytes) → length (first_line (c ∷ s)) ≡ cond (c == 10) 0 (1 + length (first_line s))
+first_cases c s = go (eqb c 10) refl
+  where
+    go : (b : Bool) → eqb c 10 ≡ b → length (first_line (c ∷ s)) ≡ cond b 0 (1 + length (first_line s))
+    go true e = ap length (first_feed c s e)
+    go false e = ap length (first_other c s e) ∙ omega arith
 
-  module _ (h : i < length s) where
-    pub line_feed : get_or s i 0 ≡ 10 → first_line (drop i s) ≡ []
-    line_feed e = ap first_line (at_offset s i h) ∙ first_feed (get_or s i 0) (drop (i + 1) s) (eq-eqb (get_or s i 0) 10 e)
+-- a line is as long as the place of the first LF
+pub first_place : (s : Bytes) → length (first_line s) ≡ position_or_len (λ c. c == 10) s
+unfolding first_line
+first_place s = is_position_or_len (λ t. length (first_line t)) (λ c. c == 10) refl first_cases s
 
-    pub line_other : (get_or s i 0 ≡ 10 → ⊥) → length (first_line (drop i s)) ≡ suc (length (first_line (drop (i + 1) s)))
-    line_other e = ap length (ap first_line (at_offset s i h) ∙ first_other (get_or s i 0) (drop (i + 1) s) (ne_eqb (get_or s i 0) 10 e))
+place : (p : ℕ → Bool) (xs : Bytes) → unwrap_or (position p xs) (length xs) ≡ position_or_len p xs
+place p xs = go (nat_lt (position_or_len p xs) (length xs)) refl
+  where
+    go : (b : Bool) → nat_lt (position_or_len p xs) (length xs) ≡ b → unwrap_or (cond b (Some (position_or_len p xs)) None) (length xs) ≡ position_or_len p xs
+    go true e = refl
+    go false e = let h = ltb-false (position_or_len p xs) (length xs) e in let k = prefix_len-le-length (λ x. not (p x)) xs in omega arith
+
+-- at the first LF behind an offset, or where there is none at the end, the line ends
+pub line_ends : (s : Bytes) (at : ℕ) (r : Bytes) (o : Option ℕ) → r ≡ part s at (length s) → o ≡ position (λ c. c == 10) r → unwrap_or o (length r) ≡ length (first_line (drop at s))
+line_ends s at r o e f =
+    ap (λ z. unwrap_or z (length r)) f ∙ place (λ c. c == 10) r ∙ sym (first_place r) ∙ ap (λ z. length (first_line z)) (e ∙ take_rest s at)
 
 -- a line is what its bytes start with
 first_front : (s : Bytes) → (take (length (first_line s)) s ≡ first_line s) × (length (first_line s) ≤ length s)
@@ -116,11 +132,12 @@ module _ {s : Bytes} {l m : List ℕ} {n at : ℕ} (g : Numbering s l m n at) wh
         part = sym (length-take-le n m (omega arith));
       }
 
-  pub numbering_full : length m ≤ n → WordsIs s l m n
+  pub numbering_full : length m ≤ n → WordsIs s l m (length m)
   numbering_full h =
       let r = g.room in
       let y = same_length in
-      ends (stored_out (numbers (drop at s)) (sets l 0 g.ws) n (omega (arith, length-sets l 0 g.ws))) (omega arith)
+      let e : n ≡ length m = omega arith in
+      subst (WordsIs s l m) e (ends (stored_out (numbers (drop at s)) (sets l 0 g.ws) n (omega (arith, length-sets l 0 g.ws))) (omega arith))
 
   pub numbering_ends : length s ≤ at → WordsIs s l m n
   unfolding numbers numbers_by

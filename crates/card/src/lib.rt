@@ -2,6 +2,7 @@
 // numbers and lines of stored records.
 #![tactic(auto)]
 
+pub mod input;
 pub mod number;
 pub mod read;
 pub mod stored;

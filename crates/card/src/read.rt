@@ -23,20 +23,6 @@ impl Card {
     pub const DIGITS: usize = 5;
 }
 
-// A card, or other input: document 01's number 15 at 0.
-#[derive(Clone, Copy)]
-pub enum CardRead {
-    Card(Card),
-    Other,
-}
-
-// A number and the offset behind the byte that follows it, or there is none.
-#[derive(Clone, Copy)]
-enum Field {
-    Number(u32, usize),
-    None,
-}
-
 // The words of a span line and the offset behind it.
 #[derive(Clone, Copy)]
 struct SpanLine {
@@ -46,12 +32,6 @@ struct SpanLine {
     next: usize,
 }
 
-#[derive(Clone, Copy)]
-enum Line {
-    Span(SpanLine),
-    None,
-}
-
 // How many words are stored, and the offset behind their lines.
 #[derive(Clone, Copy)]
 struct Lines {
@@ -59,48 +39,33 @@ struct Lines {
     next: usize,
 }
 
-// The number from offset `at` on, with the byte `mark` behind it.
-fn read_field(input: &[u8], at: usize, mark: u8) -> Field
+// The number from offset `at` on, with the byte `mark` behind it, and the offset behind that byte.
+fn read_field(input: &[u8], at: usize, mark: u8) -> Option<(u32, usize)>
     ensures { FieldIs input.now at mark result }
 {
     let number = read_digits(input, at);
     let end = number.end;
-    if end == at {
-        return Field::None;
+    if end == at || Card::DIGITS < end - at {
+        return None;
     }
-    if Card::DIGITS < end - at {
-        return Field::None;
+    if input.len() <= end || input[end] != mark {
+        return None;
     }
-    if input.len() <= end {
-        return Field::None;
-    }
-    if input[end] != mark {
-        return Field::None;
-    }
-    Field::Number(number.value, end + 1)
+    Some((number.value, end + 1))
 }
 
 // The span line from offset `at` on.
-fn read_line(input: &[u8], at: usize) -> Line
+fn read_line(input: &[u8], at: usize) -> Option<SpanLine>
     ensures { LineIs input.now at result }
 {
-    let first = read_field(input, at, b' ');
-    let Field::Number(tag, second) = first else {
-        return Line::None;
-    };
-    let middle = read_field(input, second, b' ');
-    let Field::Number(start, third) = middle else {
-        return Line::None;
-    };
-    let last = read_field(input, third, b'\n');
-    let Field::Number(end, next) = last else {
-        return Line::None;
-    };
-    Line::Span(SpanLine {
-        tag: tag,
-        start: start,
-        end: end,
-        next: next,
+    let (tag, second) = read_field(input, at, b' ')?;
+    let (start, third) = read_field(input, second, b' ')?;
+    let (end, next) = read_field(input, third, b'\n')?;
+    Some(SpanLine {
+        tag,
+        start,
+        end,
+        next,
     })
 }
 
@@ -118,44 +83,36 @@ fn read_lines(input: &[u8], from: usize, words: &mut [u32]) -> Lines
     requires { from ≤ length input.now }
     ensures { LinesIs input.now from words.old words.new result }
 {
-    let mut n: usize = 0;
+    let mut n = 0;
     let mut at = from;
-    loop {
-        let line = read_line(input, at);
-        let Line::Span(s) = line else {
-            return Lines { words: n, next: at };
-        };
+    while let Some(s) = read_line(input, at) {
         put_word(words, n, s.tag);
         put_word(words, n + 1, s.start);
         put_word(words, n + 2, s.end);
         n += 3;
         at = s.next;
     }
+    Lines { words: n, next: at }
 }
 
-// Reads a card. The words of its spans are stored, as far as there is room. The span lines are read
-// over no words first, so that other input changes nothing.
-pub fn read_card(input: &[u8], words: &mut [u32]) -> CardRead
+// Reads a card; document 01's number for other input is 15, at 0. The words of its spans are stored, as
+// far as there is room. The span lines are read over no words first, so that other input changes
+// nothing.
+pub fn read_card(input: &[u8], words: &mut [u32]) -> Option<Card>
     ensures { CardIs input.now words.old words.new result }
 {
     if Card::LIMIT < input.len() {
-        return CardRead::Other;
+        return None;
     }
-    let first = read_field(input, 0, b'\n');
-    let Field::Number(options, from) = first else {
-        return CardRead::Other;
-    };
+    let (options, from) = read_field(input, 0, b'\n')?;
     let probe = read_lines(input, from, &mut words[0..0]);
     let end = probe.next;
-    if input.len() <= end {
-        return CardRead::Other;
-    }
-    if input[end] != b'\n' {
-        return CardRead::Other;
+    if input.len() <= end || input[end] != b'\n' {
+        return None;
     }
     let lines = read_lines(input, from, words);
-    CardRead::Card(Card {
-        options: options,
+    Some(Card {
+        options,
         words: lines.words,
         text: end + 1,
     })

@@ -9,14 +9,8 @@ use support::bytes::part;
 fn line_end(s: &[u8], at: usize) -> usize
     ensures { result ≡ at + length (first_line (drop at s.now)) }
 {
-    let mut i = at;
-    while i < s.len() {
-        if s[i] == b'\n' {
-            return i;
-        }
-        i += 1;
-    }
-    i
+    let rest = part(s, at, s.len());
+    at + rest.iter().position(|c| *c == b'\n').unwrap_or(rest.len())
 }
 
 // The line from offset `at` on, without its LF.
@@ -30,16 +24,14 @@ pub fn line_at(s: &[u8], at: usize) -> &[u8]
 pub fn read_words(line: &[u8], words: &mut [u32]) -> usize
     ensures { WordsIs line.now words.old words.new result }
 {
-    let mut n: usize = 0;
-    let mut at: usize = 0;
-    while at < line.len() {
-        if words.len() <= n {
+    let mut at = 0;
+    for n in 0..words.len() {
+        if line.len() <= at {
             return n;
         }
         let number = read_digits(line, at);
         words[n] = number.value;
-        n += 1;
         at = number.end + 1;
     }
-    n
+    words.len()
 }

@@ -5,12 +5,13 @@
 // times as much. The answers are compared with those of tools/cards.
 #![tactic(auto)]
 
-ghost use Rattle.std.specs.Prelude.{◌≤◌, length, IfOk};
+ghost use Rattle.std.specs.Prelude.{◌≤◌, length};
 
+use card::input::read_full;
 use card::number::read_digits;
-use card::read::{Card, CardRead, read_card};
+use card::read::{Card, read_card};
 use card::stored::line_at;
-use std::io::{self, Read};
+use std::io;
 use support::bytes::{part, same_bytes};
 use template::compile::compile2;
 use template::refusal::{Reason, Refusal};
@@ -24,30 +25,13 @@ const SHORT: usize = 256;
 // The longest that is shown whole.
 const LONG: usize = 4096;
 
-fn show(rt: &impl Print, bytes: &[u8]) -> io::Result<()> {
-    rt.write_all(bytes)
-}
-
-fn show_number(rt: &impl Print, n: usize) -> io::Result<()> {
-    rt.print(n)
-}
-
 fn show_refusal(rt: &impl Print, number: usize, place: usize) -> io::Result<()> {
-    show(rt, b"refused ")?;
-    show_number(rt, number)?;
-    show(rt, b" at ")?;
-    show_number(rt, place)?;
-    show(rt, b"\n")
+    println!(rt; "refused {number} at {place}")
 }
 
 // Whether all bytes are canaries.
 fn untouched(bytes: &[u8]) -> bool {
-    for b in bytes {
-        if *b != CANARY {
-            return false;
-        }
-    }
-    true
+    bytes.iter().all(|b| *b == CANARY)
 }
 
 // The answer over the first `room` bytes.
@@ -86,6 +70,7 @@ fn good_room(text: &[u8], words: &[u32], options: u32, listing: &[u8], room: usi
 
 // A sum in which a byte counts by its place, so that few wrong listings have the right one.
 fn sum_of(bytes: &[u8]) -> usize {
+    // Stays: in a `fold` nothing bounds the sum that the closure is given.
     let mut sum: usize = 0;
     for b in bytes {
         sum = (sum * 31 + *b as usize) % 1000003;
@@ -96,13 +81,10 @@ fn sum_of(bytes: &[u8]) -> usize {
 // A listing, or its length and sum.
 fn show_listing(rt: &impl Print, listing: &[u8]) -> io::Result<()> {
     if listing.len() <= LONG {
-        return show(rt, listing);
+        return rt.write_all(listing);
     }
-    show(rt, b"a listing of ")?;
-    show_number(rt, listing.len())?;
-    show(rt, b" bytes with sum ")?;
-    show_number(rt, sum_of(listing))?;
-    show(rt, b"\n")
+    let sum = sum_of(listing);
+    println!(rt; "a listing of {} bytes with sum {sum}", listing.len())
 }
 
 // How many rooms from 0 to past the listing are answered as they should be.
@@ -116,15 +98,14 @@ fn show_rooms(
     if SHORT < listing.len() {
         return Ok(());
     }
+    // Stays: in a chain over the rooms nothing bounds the room that the closure is given.
     let mut good: usize = 0;
     for room in 0..listing.len() + 4 {
         if good_room(text, words, options, listing, room) {
             good += 1;
         }
     }
-    show(rt, b"rooms ")?;
-    show_number(rt, good)?;
-    show(rt, b"\n")
+    println!(rt; "rooms {good}")
 }
 
 // The answer with room for four times as much.
@@ -134,7 +115,7 @@ fn show_longer(rt: &impl Print, text: &[u8], words: &[u32], options: u32) -> io:
         Ok(n) => {
             show_listing(rt, part(&out, 0, n))?;
             if !untouched(part(&out, n, out.len())) {
-                show(rt, b"and more was written\n")?;
+                println!(rt; "and more was written")?;
             }
             Ok(())
         }
@@ -161,21 +142,16 @@ fn show_answer(rt: &impl Print, text: &[u8], words: &[u32], options: u32) -> io:
 
 fn show_card(rt: &impl Print, input: &[u8]) -> io::Result<()> {
     let mut words = [0u32; Card::WORDS];
-    let c = read_card(input, &mut words);
-    let CardRead::Card(card) = c else {
+    let Some(card) = read_card(input, &mut words) else {
         return show_refusal(rt, 15, 0);
     };
-    let n = card.words;
-    show_answer(
-        rt,
-        part(input, card.text, input.len()),
-        &words[..n],
-        card.options,
-    )
+    let text = part(input, card.text, input.len());
+    show_answer(rt, text, &words[..card.words], card.options)
 }
 
 // Each card, behind its number.
 fn replay(rt: &impl Print, input: &[u8]) -> io::Result<()> {
+    // Stays: a card ends where the line before it says, so that no iterator of std finds its end.
     let mut at: usize = 0;
     let mut number: usize = 0;
     while at < input.len() {
@@ -183,30 +159,12 @@ fn replay(rt: &impl Print, input: &[u8]) -> io::Result<()> {
         let length = read_digits(line, 0);
         let start = at + line.len() + 1;
         let end = start + length.value as usize;
-        show(rt, b"card ")?;
-        show_number(rt, number)?;
-        show(rt, b"\n")?;
+        println!(rt; "card {number}")?;
         show_card(rt, part(input, start, end))?;
         number += 1;
         at = end;
     }
     Ok(())
-}
-
-// Fills the buffer as far as there is input, and answers how many bytes there were. A proved loop has
-// to end, and nothing says that the input does: so the turns are counted.
-fn read_full(input: &mut impl Read, buf: &mut [u8]) -> io::Result<usize>
-    ensures { IfOk result (λ n. n ≤ length buf.new) }
-{
-    let mut done = 0;
-    for _ in 0..u64::MAX {
-        let n = input.read(&mut buf[done..])?;
-        if n == 0 {
-            break;
-        }
-        done += n;
-    }
-    Ok(done)
 }
 
 fn main(rt: HostRuntime) -> io::Result<()> {

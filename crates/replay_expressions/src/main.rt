@@ -3,8 +3,7 @@
 // tools/expressions.
 #![tactic(auto)]
 
-ghost use Rattle.std.specs.Prelude.{◌≤◌, length, IfOk};
-
+use card::input::read_full;
 use card::stored::{line_at, read_words};
 use expression::again::{enter, next_key, next_param};
 use expression::parameter::{
@@ -16,7 +15,7 @@ use expression::parse::{
 };
 use json_path::path::{Name, Path};
 use json_path::span::{Span, next_span, span_at, span_count};
-use std::io::{self, Read};
+use std::io;
 use support::bytes::part;
 
 // How many bytes of input are read.
@@ -288,22 +287,6 @@ fn replay(rt: &impl Print, input: &[u8]) -> io::Result<()> {
         at = second + words.len() + 1;
     }
     Ok(())
-}
-
-// Fills the buffer as far as there is input, and answers how many bytes there were. A proved loop has
-// to end, and nothing says that the input does: so the turns are counted.
-fn read_full(input: &mut impl Read, buf: &mut [u8]) -> io::Result<usize>
-    ensures { IfOk result (λ n. n ≤ length buf.new) }
-{
-    let mut done = 0;
-    for _ in 0..u64::MAX {
-        let n = input.read(&mut buf[done..])?;
-        if n == 0 {
-            break;
-        }
-        done += n;
-    }
-    Ok(done)
 }
 
 fn main(rt: HostRuntime) -> io::Result<()> {

@@ -3,14 +3,15 @@
 // and numbers around each power of ten. What is written is compared with that of tools/listing.
 #![tactic(auto)]
 
-ghost use Rattle.std.specs.Prelude.{◌≤◌, ◌<◌, length, IfOk};
+ghost use Rattle.std.specs.Prelude.{◌≤◌, ◌<◌};
 
+use card::input::read_full;
 use card::stored::{line_at, read_words};
 use expression::parameter::Subexpression;
 use json_path::span::{Span, span_at, span_count};
 use listing::children::{write_decorator, write_helper};
 use listing::write::{write_decimal, write_quoted};
-use std::io::{self, Read};
+use std::io;
 use support::bytes::part;
 
 // How many bytes of input are read.
@@ -166,22 +167,6 @@ fn replay(rt: &impl Print, input: &[u8]) -> io::Result<()> {
         at = second + words.len() + 1;
     }
     Ok(())
-}
-
-// Fills the buffer as far as there is input, and answers how many bytes there were. A proved loop has
-// to end, and nothing says that the input does: so the turns are counted.
-fn read_full(input: &mut impl Read, buf: &mut [u8]) -> io::Result<usize>
-    ensures { IfOk result (λ n. n ≤ length buf.new) }
-{
-    let mut done = 0;
-    for _ in 0..u64::MAX {
-        let n = input.read(&mut buf[done..])?;
-        if n == 0 {
-            break;
-        }
-        done += n;
-    }
-    Ok(done)
 }
 
 fn main(rt: HostRuntime) -> io::Result<()> {

@@ -3,8 +3,9 @@
 // verdict, `v`, `i` or `o`, and for `q` a space and the rewritten text.
 #![tactic(auto)]
 
-ghost use Rattle.std.specs.Prelude.{◌≡◌, ◌<◌, ◌≤◌, length, IfOk};
+ghost use Rattle.std.specs.Prelude.{◌<◌};
 
+use card::input::read_full;
 use literal::check::{LiteralError, check_literal, check_quoted};
 use literal::requote::{Place, next_quoted};
 use std::io::{self, Read};
@@ -39,22 +40,6 @@ fn answer(rt: &impl Print, kind: u8, text: &[u8]) -> io::Result<()> {
         write_byte(rt, letter(check_literal(text)))?;
     }
     write_byte(rt, b'\n')
-}
-
-// Fills the buffer as far as there is input, and answers how many bytes there were. A proved loop has
-// to end, and nothing says that the input does: so the turns are counted.
-fn read_full(input: &mut impl Read, buf: &mut [u8]) -> io::Result<usize>
-    ensures { IfOk result (λ n. n ≤ length buf.new) }
-{
-    let mut done = 0;
-    for _ in 0..u64::MAX {
-        let n = input.read(&mut buf[done..])?;
-        if n == 0 {
-            break;
-        }
-        done += n;
-    }
-    Ok(done)
 }
 
 // The text of a record, which it reads into `text`.

@@ -3,7 +3,7 @@ use Rattle.card.proofs.Lent.{array_lent}
 use Rattle.cardtree.proofs.show_card.Goals as goal
 
 pub slice_bounds-words-end : goal.slice_bounds-words-end
-slice_bounds-words-end g c = (array_lent c.in-Card.is c.read_card-c.ensures).words
+slice_bounds-words-end g c = (array_lent c.in-Some.is c.read_card.ensures).words
 
 pub slice_bounds-show_answer-end : goal.slice_bounds-show_answer-end
-slice_bounds-show_answer-end g c = (array_lent c.in-Card.is c.read_card-c.ensures).part
+slice_bounds-show_answer-end g c = (array_lent c.in-Some.is c.read_card.ensures).part

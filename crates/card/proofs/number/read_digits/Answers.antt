@@ -6,27 +6,21 @@ use lib.ListN.{get_or}
 use Rattle.card.proofs.Numbers as numbers
 use Rattle.card.proofs.number.read_digits.Goals as goal
 
-pub loop-i-init : goal.loop-i-init
-loop-i-init c = numbers.reading_starts _ _
+pub loop-c-preserved : goal.loop-c-preserved
+loop-c-preserved c =
+    let l = c.loop-c in
+    let s = c.part-c-items.result.now in
+    let digit = sym (numbers.digit_same (get_or s l.c-index 0)) ∙ sym c.is_ascii_digit.ensures.value ∙ c.if-not-is_ascii_digit.false in
+    record { read = numbers.reading_goes_on l.invariant.read c.loop-c-test.true digit c.grown-value.result c.grown-value.ensures; end = omega arith }
 
-pub returns-then-not-is_digit : goal.returns-then-not-is_digit
-returns-then-not-is_digit c =
-    let l = c.loop-i in
-    let s = c.args.s.now in
-    numbers.reading_ends l.invariant (numbers.digits_stop s l.i (omega arith) (sym c.is_digit.ensures ∙ c.if-not-is_digit.true))
+pub returns-after-loop-c : goal.returns-after-loop-c
+returns-after-loop-c c =
+    let l = c.loop-c in
+    numbers.reading_ends l.invariant.read c.part-c-items.ensures l.invariant.end (numbers.digits_past c.part-c-items.result.now l.c-index c.loop-c-test.false)
 
-pub grown-value-requires : goal.grown-value-requires
-grown-value-requires c =
-    let s = c.args.s.now in
-    numbers.digit_least (get_or s c.loop-i.i 0) (sym c.is_digit.ensures ∙ c.if-not-is_digit.false)
-
-pub loop-i-preserved : goal.loop-i-preserved
-loop-i-preserved c =
-    let l = c.loop-i in
-    let digit = sym c.is_digit.ensures ∙ c.if-not-is_digit.false in
-    numbers.reading_goes_on l.invariant (omega arith) digit c.grown-value.result c.grown-value.ensures
-
-pub returns : goal.returns
-returns c =
-    let l = c.loop-i in
-    numbers.reading_ends l.invariant (numbers.digits_past c.args.s.now l.i (omega arith))
+pub returns-then-not-is_ascii_digit : goal.returns-then-not-is_ascii_digit
+returns-then-not-is_ascii_digit c =
+    let l = c.loop-c in
+    let s = c.part-c-items.result.now in
+    let other = sym (numbers.digit_same (get_or s l.c-index 0)) ∙ sym c.is_ascii_digit.ensures.value ∙ c.if-not-is_ascii_digit.true in
+    numbers.reading_ends l.invariant.read c.part-c-items.ensures l.invariant.end (numbers.digits_stop s l.c-index c.loop-c-test.true other)

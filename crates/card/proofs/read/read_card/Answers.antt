@@ -3,41 +3,27 @@
 use Rattle.card.proofs.FieldLaws as fields
 use Rattle.card.proofs.CardLaws as laws
 use Rattle.card.proofs.read.read_card.Goals as goal
+use Rattle.card.proofs.read.read_card.Goals.{then-input-end-via-then-input-end, then-input-end-via-else-input-end+then-input-end-ne10}
 
 pub returns-then-input-gt-LIMIT : goal.returns-then-input-gt-LIMIT
-returns-then-input-gt-LIMIT c =
-    let a = c.args in
-    laws.too_long a.input.now a.words.now c.if-input-gt-LIMIT.true
+returns-then-input-gt-LIMIT c = laws.too_long c.args.input.now c.args.words.now c.if-input-gt-LIMIT.true
 
-pub returns-in_default : goal.returns-in_default
-returns-in_default c =
-    let a = c.args in
-    laws.no_options c.if-input-gt-LIMIT.false a.words.now (fields.number_none c.in_default.is c.read_field-first.ensures)
-
-pub read_lines-probe-requires : goal.read_lines-probe-requires
-read_lines-probe-requires c =
-    let f = fields.number_found c.in-Number.is c.read_field-first.ensures in
-    f.most
+pub returns-in_err-options : goal.returns-in_err-options
+returns-in_err-options c =
+    rw c.from_residual.ensures (laws.no_options c.if-input-gt-LIMIT.false c.args.words.now (fields.number_none c.in_err-options.was c.read_field.ensures))
 
 pub returns-then-input-end : goal.returns-then-input-end
 returns-then-input-end c =
-    let a = c.args in
-    let f = fields.number_found c.in-Number.is c.read_field-first.ensures in
-    laws.ended c.if-input-gt-LIMIT.false f c.read_lines-probe.ensures a.words.now c.if-input-end.true
-
-pub returns-then-input-end-ne10 : goal.returns-then-input-end-ne10
-returns-then-input-end-ne10 c =
-    let a = c.args in
-    let f = fields.number_found c.in-Number.is c.read_field-first.ensures in
-    laws.not_empty c.if-input-gt-LIMIT.false f c.read_lines-probe.ensures a.words.now c.if-input-end.false c.if-input-end-ne10.true
-
-pub read_lines-lines-requires : goal.read_lines-lines-requires
-read_lines-lines-requires c =
-    let f = fields.number_found c.in-Number.is c.read_field-first.ensures in
-    f.most
+    let f = fields.number_found c.in_ok-options.was c.read_field.ensures in
+    let g = c.read_lines-probe.ensures in
+    let l = c.args.words.now in
+    elim c.then-input-end.branch [
+      | then-input-end-via-then-input-end w ↦ laws.ended c.if-input-gt-LIMIT.false f g l w.if-input-end.true
+      | then-input-end-via-else-input-end+then-input-end-ne10 w ↦
+          laws.not_empty c.if-input-gt-LIMIT.false f g l w.if-input-end.false w.if-input-end-ne10.true
+    ]
 
 pub returns : goal.returns
 returns c =
-    let a = c.args in
-    let f = fields.number_found c.in-Number.is c.read_field-first.ensures in
-    laws.card_found c.if-input-gt-LIMIT.false f c.read_lines-probe.ensures a.words.now c.if-input-end.false c.if-input-end-ne10.false c.read_lines-lines.ensures
+    let f = fields.number_found c.in_ok-options.was c.read_field.ensures in
+    laws.card_found c.if-input-gt-LIMIT.false f c.read_lines-probe.ensures c.args.words.now c.if-input-end.false c.if-input-end-ne10.false c.read_lines-lines.ensures

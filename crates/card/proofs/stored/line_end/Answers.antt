@@ -1,24 +1,14 @@
--- `card::stored::line_end` meets its contract: the line from the index on ends where the line from the start on does. Assumes nothing.
-use native.Mathlib.Omega.{arith}
-use mathlib.Core.Path.{ap}
-use lib.ListN.{length}
+-- `card::stored::line_end` meets its contract: the place of the first LF is the line's length. Assumes nothing.
+use Rattle.std.proofs.Common.{◌≡◌, ◌+◌, ◌==◌, ap, ◌∙◌, rules, tests}
+use Rattle.std.proofs.lemmas.Iterator.{YieldsList-from_slice}
+use Rattle.std.proofs.lemmas.Iterator.Search.{position_from_yields_List}
+use Rattle.std.specs.List.{position}
 use Rattle.card.proofs.StoredLaws as laws
 use Rattle.card.proofs.stored.line_end.Goals as goal
 
-pub returns-then-s-i-eq10 : goal.returns-then-s-i-eq10
-returns-then-s-i-eq10 c =
-    let l = c.loop-i in
-    let e = ap length (laws.line_feed c.args.s.now l.i (omega arith) c.if-s-i-eq10.true) in
-    omega arith
-
-pub loop-i-preserved : goal.loop-i-preserved
-loop-i-preserved c =
-    let l = c.loop-i in
-    let e = laws.line_other c.args.s.now l.i (omega arith) (omega arith) in
-    omega arith
-
 pub returns : goal.returns
 returns c =
-    let l = c.loop-i in
-    let e = ap length (laws.line_past c.args.s.now l.i (omega arith)) in
-    omega arith
+    let r = c.part-rest.result.now in
+    let place : c.position.result ≡ position (λ b. b == 10) r =
+    position_from_yields_List (λ b. b == 10) _ _ c.position.result c.position.ensures.ran (YieldsList-from_slice r cc) (λ x b q k. search (rules, tests)) in
+    ap (c.args.at +◌) (c.unwrap_or.ensures ∙ laws.line_ends c.args.s.now c.args.at r c.position.result c.part-rest.ensures place)

@@ -1,6 +1,0 @@
--- The bytes read so far lie within the buffer.
-use Rattle.std.proofs.Common.{◌≤◌, length}
-use Rattle.replay_listing.proofs.read_full.Given as goal
-
-abbrev pub invariant-loop : goal.invariant-loop
-invariant-loop g l = l.done ≤ length l.buf
