@@ -73,6 +73,7 @@ fn read_line(input: &[u8], at: usize) -> Option<SpanLine>
 fn put_word(words: &mut [u32], n: usize, word: u32)
     ensures { words.new ≡ set words.old n word }
 {
+    // Stays: of what is written through `get_mut` a proof knows no element.
     if n < words.len() {
         words[n] = word;
     }

@@ -21,6 +21,7 @@ use support::bytes::part;
 // How many bytes of input are read.
 const LIMIT: usize = 65536;
 
+// Stays: `Print` says nothing of what it writes, so a public function in `card` could promise nothing.
 fn show(rt: &impl Print, bytes: &[u8]) -> io::Result<()> {
     rt.write_all(bytes)
 }

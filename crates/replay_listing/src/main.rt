@@ -19,6 +19,7 @@ const LIMIT: usize = 65536;
 
 const ROOM: usize = 8192;
 
+// Stays: `Print` says nothing of what it writes, so a public function in `card` could promise nothing.
 fn show(rt: &impl Print, bytes: &[u8]) -> io::Result<()> {
     rt.write_all(bytes)
 }
