@@ -78,15 +78,6 @@ write_held-loop-i-preserved t c =
 pub write_held-returns : goal.write_held-returns
 write_held-returns t c = held_writes.held_done c.loop-i.invariant c.loop-i-test.false
 
-pub write_keys-hold_keys-requires : goal.write_keys-hold_keys-requires
-write_keys-hold_keys-requires t c = c.requires
-
-pub write_keys-write_many_keys-requires : goal.write_keys-write_many_keys-requires
-write_keys-write_many_keys-requires t c = (omega (arith, c.decreases), c.requires)
-
-pub write_keys-returns-in_default : goal.write_keys-returns-in_default
-write_keys-returns-in_default t c = c.write_many_keys.ensures
-
 pub write_keys-slice_bounds-write_held-end : goal.write_keys-slice_bounds-write_held-end
 write_keys-slice_bounds-write_held-end t c =
     let k = c.in-Some.ensures.means in omega (arith, c.hold_keys.auto.held)
@@ -121,15 +112,6 @@ write_least_keys-loop-h-preserved t c =
 
 pub write_least_keys-returns-in_default : goal.write_least_keys-returns-in_default
 write_least_keys-returns-in_default t c = params.keys_done c.loop-h.invariant (search rules)
-
-pub write_many_keys-hold_keys-requires : goal.write_many_keys-hold_keys-requires
-write_many_keys-hold_keys-requires t c = c.requires
-
-pub write_many_keys-write_least_keys-requires : goal.write_many_keys-write_least_keys-requires
-write_many_keys-write_least_keys-requires t c = (omega (arith, c.decreases), c.requires)
-
-pub write_many_keys-returns-in_default : goal.write_many_keys-returns-in_default
-write_many_keys-returns-in_default t c = c.write_least_keys.ensures
 
 pub write_many_keys-slice_bounds-write_held-end : goal.write_many_keys-slice_bounds-write_held-end
 write_many_keys-slice_bounds-write_held-end t c =

@@ -4,12 +4,6 @@ use native.Mathlib.Omega.{arith}
 use Rattle.listing.proofs.Writes as writes
 use Rattle.listing.proofs.write.+write_decimal.Goals as goal
 
-pub overflow_cast-n : goal.overflow_cast-n
-overflow_cast-n t c = omega (arith, c.if-n-lt10.true)
-
-pub overflow_add-n : goal.overflow_add-n
-overflow_add-n t c = omega (arith, c.if-n-lt10.true)
-
 pub returns-then-n-lt10 : goal.returns-then-n-lt10
 returns-then-n-lt10 t c =
     let a = c.args in

@@ -9,6 +9,3 @@ returns-then-out-at c =
     let a = c.args in
     writes.written_out (escaped a.text.now) a.out.now a.at c.saturating_add-then-out-at.result (omega arith)
     (omega (arith, c.saturating_add-then-out-at.ensures, c.escapes.ensures, c.saturating_add.ensures))
-
-pub returns : goal.returns
-returns c = c.write_blocks.ensures
