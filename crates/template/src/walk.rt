@@ -11,14 +11,12 @@ use crate::element::{Back, Element, Front, RawString, TemplateElement};
 use crate::frame::{Frame, Marks};
 use crate::reason::is_filling;
 use crate::tree::write_tree;
-use crate::turn::{
-    Gapped, Joined, Open, Plan, Turn, join, plan_of, ref_chain_head, take_gap, turn_of,
-};
+use crate::turn::{Standing, join, take_gap, take_turn};
 use crate::visit::{Act, Here, Options, Step, View, Visit, visit_span};
 use expression::parameter::AsName;
 use json_path::span::span_count;
 use support::bytes::part;
-use support::position::{Place, line_col};
+use support::position::line_col;
 
 // A turn's visit; while a block closes, nothing is visited.
 pub(crate) fn look(
@@ -82,10 +80,9 @@ pub(crate) fn rest_of(text: &[u8], words: &[u32], m: Marks, h: Here) -> Element
     )
 }
 
-// Each turn: what is visited, the gap, the trim of the last text, the act. The store and the frames are
-// written at every turn, with what was there where nothing changes. At the end of the list the text that is
-// left joins the root's body, and the tree is listed. `N` is how many elements the store has: to fill a large
-// one takes longer than the work on a small card.
+// Each turn visits a span, or closes a block. At the end of the list the text that is left joins the root's
+// body, and the tree is listed. `N` is how many elements the store has: to fill a large one takes longer than
+// the work on a small card.
 pub(crate) fn walk<const N: usize>(
     text: &[u8],
     starts: &[bool],
@@ -102,107 +99,28 @@ pub(crate) fn walk<const N: usize>(
 {
     let mut elements = [Element::EMPTY; N];
     let mut levels = [Frame::EMPTY; Frame::LIMIT];
-    let mut top = Frame::EMPTY;
-    let mut marks = Marks::FIRST;
-    let mut here = Here {
-        place: Place { line: 1, column: 1 },
-        at: 0,
-    };
-    let mut depth: usize = 0;
-    let mut len: usize = 1;
-    let mut count: usize = 0;
-    let mut closing = false;
-    let mut at: usize = 0;
+    let mut b = Standing::FIRST;
     loop {
-        let b = top.block;
-        let block = elements[b];
-        let opened = top.opened;
-        let name = block.name();
         let v = View {
-            marks: marks,
-            opened: opened,
-            inverted: top.inverted,
-            name: name,
-            count: count,
-            here: here,
+            marks: b.marks,
+            opened: b.top.opened,
+            inverted: b.top.inverted,
+            name: elements[b.top.block].name(),
+            count: b.count,
+            here: b.here,
         };
-        let seen = look(text, starts, ends, words, o, v, at, closing);
-        match seen {
-            Visit::Refused(r) => {
-                return Answer::Refused(r.number, r.place);
-            }
-            Visit::End => {
-                if unfinished(text, marks, depth) {
-                    return Answer::Refused(7, span_count(words));
-                }
-                break;
-            }
-            Visit::Step(s) => {
-                let ge = s.gap;
-                let g = take_gap(s.gapped, ge, len);
-                let made = g.made;
-                elements[len] = made;
-                len = g.len;
-                let gl = top.last;
-                let gx = elements[gl];
-                let gj = join(top, gx, g.join);
-                let gz = gj.last;
-                elements[gl] = gz;
-                top = gj.top;
-                let back = s.back;
-                let tl = top.last;
-                let tx = elements[tl];
-                elements[tl] = tx.trim_end(back);
-                let w = ref_chain_head(top.block, top.head);
-                let owner = elements[w];
-                let u = depth.saturating_sub(1);
-                let below = levels[u];
-                let act = s.act;
-                let t = turn_of(closing, top.head, act);
-                let p = plan_of(
-                    t,
-                    Open {
-                        top: top,
-                        below: below,
-                        owner: owner,
-                        depth: depth,
-                        len: len,
-                        count: count,
-                    },
-                );
-                let pm = p.made;
-                elements[len] = pm;
-                let po = p.owner;
-                elements[w] = po;
-                let slot = p.slot;
-                let pp = p.put;
-                levels[slot] = pp;
-                let pt = p.top;
-                let pl = pt.last;
-                let px = elements[pl];
-                let pj = join(pt, px, p.join);
-                let pz = pj.last;
-                elements[pl] = pz;
-                top = pj.top;
-                depth = p.depth;
-                len = p.len;
-                count = p.count;
-                closing = p.closing;
-                marks = s.marks;
-                here = s.here;
-                at = s.next;
-            }
+        match look(text, starts, ends, words, o, v, b.at, b.closing) {
+            Visit::Refused(r) => return Answer::Refused(r.number, r.place),
+            Visit::End => break,
+            Visit::Step(s) => b = take_turn(&mut elements, &mut levels, b, s),
         }
     }
-    // The text that is left.
-    let rest = rest_of(text, words, marks, here);
-    let rg = take_gap(marks.end_pos < text.len(), rest, len);
-    let rm = rg.made;
-    elements[len] = rm;
-    let rl = top.last;
-    let rx = elements[rl];
-    let rj = join(top, rx, rg.join);
-    let rz = rj.last;
-    elements[rl] = rz;
-    Answer::Listed(write_tree(out, text, words, &elements, rj.top.first))
+    if unfinished(text, b.marks, b.depth) {
+        return Answer::Refused(7, span_count(words));
+    }
+    let rest = rest_of(text, words, b.marks, b.here);
+    let g = take_gap(b.marks.end_pos < text.len(), rest, b.len);
+    elements[b.len] = g.made;
+    let top = join(&mut elements, b.top, g.join);
+    Answer::Listed(write_tree(out, text, words, &elements, top.first))
 }

@@ -1,9 +1,9 @@
--- The loop keeps what proofs/Loop says, by the stages of a turn; the answer is what proofs/WalkStages says of a visit, or what proofs/Finishing
--- says of the end of the list. Assumes nothing.
+-- The loop keeps what proofs/Loop says; the answer is what proofs/WalkStages says of a visit, or what proofs/Finishing says of the end of
+-- the list. Assumes nothing.
 use native.Mathlib.Omega.{arith}
 use mathlib.Core.Path.{refl, ap, sym, ◌∙◌}
+use lib.ListN.{length-set}
 use Rattle.template.specs.Result.{refused}
-use Rattle.template.proofs.Loop.{Gaps, Joins, Trims, Plans}
 use Rattle.template.proofs.Loop as loop
 use Rattle.template.proofs.Finishing.{Rested}
 use Rattle.template.proofs.Finishing as finishing
@@ -20,211 +20,33 @@ offset_bounds-elements-b g c = omega (arith, loop.block_in c.loop-r.invariant)
 pub bounds-elements-b : goal.bounds-elements-b
 bounds-elements-b g c = loop.block_in c.loop-r.invariant
 
-pub look-seen-requires : goal.look-seen-requires
-look-seen-requires g c = record { good = c.requires.good; lines = c.requires.lines }
-
 pub returns-in-Refused : goal.returns-in-Refused
-returns-in-Refused g c = record { means = (stages.look_refused c.loop-r.invariant c.name-name.ensures c.look-seen.ensures _ c.in-Refused.is, refl) }
+returns-in-Refused g c = record { means = (stages.look_refused c.loop-r.invariant c.name.ensures c.look.ensures _ c.in-Refused.is, refl) }
+
+pub take_turn-b-requires : goal.take_turn-b-requires
+take_turn-b-requires g c = loop.turn_fits c.loop-r.invariant (stages.look_goes c.loop-r.invariant c.name.ensures c.look.ensures _ c.in-Step.is) c.requires.size.1
+
+pub loop-r-smaller : goal.loop-r-smaller
+loop-r-smaller g c = loop.turn_less c.loop-r.invariant (stages.look_goes c.loop-r.invariant c.name.ensures c.look.ensures _ c.in-Step.is) c.take_turn-b.ensures
+
+pub loop-r-preserved : goal.loop-r-preserved
+loop-r-preserved g c = loop.turn_held c.loop-r.invariant (stages.look_goes c.loop-r.invariant c.name.ensures c.look.ensures _ c.in-Step.is) c.take_turn-b.ensures
 
 pub returns-then-unfinished : goal.returns-then-unfinished
 returns-then-unfinished g c =
-    record { means = (stages.look_early c.loop-r.invariant c.name-name.ensures c.look-seen.ensures _ c.in-End.is c.unfinished.ensures c.if-unfinished.true ∙ ap (refused 7) (sym c.span_count.ensures), refl) }
+    record { means = (stages.look_early c.loop-r.invariant c.name.ensures c.look.ensures _ c.in-End.is c.unfinished.ensures c.if-unfinished.true ∙ ap (refused 7) (sym c.span_count.ensures), refl) }
 
-pub take_gap-g-requires : goal.take_gap-g-requires
-take_gap-g-requires g c = omega (arith, c.loop-r.invariant.within)
-
-pub offset_bounds-elements-len : goal.offset_bounds-elements-len
-offset_bounds-elements-len g c = omega (arith, c.loop-r.invariant.within)
-
-pub bounds-elements-len : goal.bounds-elements-len
-bounds-elements-len g c = c.loop-r.invariant.within
-
-pub offset_bounds-elements-gl : goal.offset_bounds-elements-gl
-offset_bounds-elements-gl g c = omega (arith, loop.last_in c.loop-r.invariant)
-
-pub bounds-elements-gl : goal.bounds-elements-gl
-bounds-elements-gl g c = loop.last_in c.loop-r.invariant
-
-pub offset_bounds-elements-gl-in-Step : goal.offset_bounds-elements-gl-in-Step
-offset_bounds-elements-gl-in-Step g c = omega (arith, loop.last_in c.loop-r.invariant)
-
-pub bounds-elements-gl-in-Step : goal.bounds-elements-gl-in-Step
-bounds-elements-gl-in-Step g c = loop.last_in c.loop-r.invariant
-
-pub offset_bounds-elements-tl : goal.offset_bounds-elements-tl
-offset_bounds-elements-tl g c =
-    let gaps : Gaps c.loop-r.invariant c.in-Step.s c.take_gap-g.result = record { goes = stages.look_goes c.loop-r.invariant c.name-name.ensures c.look-seen.ensures _ c.in-Step.is; made = c.take_gap-g.ensures } in
-    let joins : Joins c.loop-r.invariant c.in-Step.s c.take_gap-g.result c.join-gj.result = record { gaps = gaps; joined = c.join-gj.ensures } in
-    omega (arith, loop.joined_last joins)
-
-pub bounds-elements-tl : goal.bounds-elements-tl
-bounds-elements-tl g c =
-    let gaps : Gaps c.loop-r.invariant c.in-Step.s c.take_gap-g.result = record { goes = stages.look_goes c.loop-r.invariant c.name-name.ensures c.look-seen.ensures _ c.in-Step.is; made = c.take_gap-g.ensures } in
-    let joins : Joins c.loop-r.invariant c.in-Step.s c.take_gap-g.result c.join-gj.result = record { gaps = gaps; joined = c.join-gj.ensures } in
-    loop.joined_last joins
-
-pub offset_bounds-elements-tl-in-Step : goal.offset_bounds-elements-tl-in-Step
-offset_bounds-elements-tl-in-Step g c =
-    let gaps : Gaps c.loop-r.invariant c.in-Step.s c.take_gap-g.result = record { goes = stages.look_goes c.loop-r.invariant c.name-name.ensures c.look-seen.ensures _ c.in-Step.is; made = c.take_gap-g.ensures } in
-    let joins : Joins c.loop-r.invariant c.in-Step.s c.take_gap-g.result c.join-gj.result = record { gaps = gaps; joined = c.join-gj.ensures } in
-    omega (arith, loop.joined_last joins)
-
-pub bounds-elements-tl-in-Step : goal.bounds-elements-tl-in-Step
-bounds-elements-tl-in-Step g c =
-    let gaps : Gaps c.loop-r.invariant c.in-Step.s c.take_gap-g.result = record { goes = stages.look_goes c.loop-r.invariant c.name-name.ensures c.look-seen.ensures _ c.in-Step.is; made = c.take_gap-g.ensures } in
-    let joins : Joins c.loop-r.invariant c.in-Step.s c.take_gap-g.result c.join-gj.result = record { gaps = gaps; joined = c.join-gj.ensures } in
-    loop.joined_last joins
-
-pub offset_bounds-elements-w : goal.offset_bounds-elements-w
-offset_bounds-elements-w g c =
-    let gaps : Gaps c.loop-r.invariant c.in-Step.s c.take_gap-g.result = record { goes = stages.look_goes c.loop-r.invariant c.name-name.ensures c.look-seen.ensures _ c.in-Step.is; made = c.take_gap-g.ensures } in
-    let joins : Joins c.loop-r.invariant c.in-Step.s c.take_gap-g.result c.join-gj.result = record { gaps = gaps; joined = c.join-gj.ensures } in
-    let trims : Trims c.loop-r.invariant c.in-Step.s c.take_gap-g.result c.join-gj.result c.trim_end.result = record { joins = joins; trims = c.trim_end.ensures } in
-    omega (arith, loop.owner_near trims c.ref_chain_head-w.ensures)
-
-pub bounds-elements-w : goal.bounds-elements-w
-bounds-elements-w g c =
-    let gaps : Gaps c.loop-r.invariant c.in-Step.s c.take_gap-g.result = record { goes = stages.look_goes c.loop-r.invariant c.name-name.ensures c.look-seen.ensures _ c.in-Step.is; made = c.take_gap-g.ensures } in
-    let joins : Joins c.loop-r.invariant c.in-Step.s c.take_gap-g.result c.join-gj.result = record { gaps = gaps; joined = c.join-gj.ensures } in
-    let trims : Trims c.loop-r.invariant c.in-Step.s c.take_gap-g.result c.join-gj.result c.trim_end.result = record { joins = joins; trims = c.trim_end.ensures } in
-    loop.owner_near trims c.ref_chain_head-w.ensures
-
-pub offset_bounds-levels-u : goal.offset_bounds-levels-u
-offset_bounds-levels-u g c =
-    let gaps : Gaps c.loop-r.invariant c.in-Step.s c.take_gap-g.result = record { goes = stages.look_goes c.loop-r.invariant c.name-name.ensures c.look-seen.ensures _ c.in-Step.is; made = c.take_gap-g.ensures } in
-    let joins : Joins c.loop-r.invariant c.in-Step.s c.take_gap-g.result c.join-gj.result = record { gaps = gaps; joined = c.join-gj.ensures } in
-    let trims : Trims c.loop-r.invariant c.in-Step.s c.take_gap-g.result c.join-gj.result c.trim_end.result = record { joins = joins; trims = c.trim_end.ensures } in
-    omega (arith, (loop.caps trims).0, c.saturating_sub-u.ensures)
-
-pub bounds-levels-u : goal.bounds-levels-u
-bounds-levels-u g c =
-    let gaps : Gaps c.loop-r.invariant c.in-Step.s c.take_gap-g.result = record { goes = stages.look_goes c.loop-r.invariant c.name-name.ensures c.look-seen.ensures _ c.in-Step.is; made = c.take_gap-g.ensures } in
-    let joins : Joins c.loop-r.invariant c.in-Step.s c.take_gap-g.result c.join-gj.result = record { gaps = gaps; joined = c.join-gj.ensures } in
-    let trims : Trims c.loop-r.invariant c.in-Step.s c.take_gap-g.result c.join-gj.result c.trim_end.result = record { joins = joins; trims = c.trim_end.ensures } in
-    omega (arith, (loop.caps trims).0, c.saturating_sub-u.ensures)
-
-pub plan_of-p-requires : goal.plan_of-p-requires
-plan_of-p-requires g c =
-    let gaps : Gaps c.loop-r.invariant c.in-Step.s c.take_gap-g.result = record { goes = stages.look_goes c.loop-r.invariant c.name-name.ensures c.look-seen.ensures _ c.in-Step.is; made = c.take_gap-g.ensures } in
-    let joins : Joins c.loop-r.invariant c.in-Step.s c.take_gap-g.result c.join-gj.result = record { gaps = gaps; joined = c.join-gj.ensures } in
-    let trims : Trims c.loop-r.invariant c.in-Step.s c.take_gap-g.result c.join-gj.result c.trim_end.result = record { joins = joins; trims = c.trim_end.ensures } in
-    let k = loop.caps trims in (k.0, omega (arith, loop.room gaps), k.1)
-
-pub offset_bounds-elements-len-in-Step : goal.offset_bounds-elements-len-in-Step
-offset_bounds-elements-len-in-Step g c =
-    let gaps : Gaps c.loop-r.invariant c.in-Step.s c.take_gap-g.result = record { goes = stages.look_goes c.loop-r.invariant c.name-name.ensures c.look-seen.ensures _ c.in-Step.is; made = c.take_gap-g.ensures } in
-    omega (arith, loop.room gaps)
-
-pub bounds-elements-len-in-Step : goal.bounds-elements-len-in-Step
-bounds-elements-len-in-Step g c =
-    let gaps : Gaps c.loop-r.invariant c.in-Step.s c.take_gap-g.result = record { goes = stages.look_goes c.loop-r.invariant c.name-name.ensures c.look-seen.ensures _ c.in-Step.is; made = c.take_gap-g.ensures } in
-    loop.room gaps
-
-pub offset_bounds-elements-w-in-Step : goal.offset_bounds-elements-w-in-Step
-offset_bounds-elements-w-in-Step g c =
-    let gaps : Gaps c.loop-r.invariant c.in-Step.s c.take_gap-g.result = record { goes = stages.look_goes c.loop-r.invariant c.name-name.ensures c.look-seen.ensures _ c.in-Step.is; made = c.take_gap-g.ensures } in
-    let joins : Joins c.loop-r.invariant c.in-Step.s c.take_gap-g.result c.join-gj.result = record { gaps = gaps; joined = c.join-gj.ensures } in
-    let trims : Trims c.loop-r.invariant c.in-Step.s c.take_gap-g.result c.join-gj.result c.trim_end.result = record { joins = joins; trims = c.trim_end.ensures } in
-    omega (arith, loop.owner_near trims c.ref_chain_head-w.ensures)
-
-pub bounds-elements-w-in-Step : goal.bounds-elements-w-in-Step
-bounds-elements-w-in-Step g c =
-    let gaps : Gaps c.loop-r.invariant c.in-Step.s c.take_gap-g.result = record { goes = stages.look_goes c.loop-r.invariant c.name-name.ensures c.look-seen.ensures _ c.in-Step.is; made = c.take_gap-g.ensures } in
-    let joins : Joins c.loop-r.invariant c.in-Step.s c.take_gap-g.result c.join-gj.result = record { gaps = gaps; joined = c.join-gj.ensures } in
-    let trims : Trims c.loop-r.invariant c.in-Step.s c.take_gap-g.result c.join-gj.result c.trim_end.result = record { joins = joins; trims = c.trim_end.ensures } in
-    loop.owner_near trims c.ref_chain_head-w.ensures
-
-pub offset_bounds-levels-slot : goal.offset_bounds-levels-slot
-offset_bounds-levels-slot g c =
-    let gaps : Gaps c.loop-r.invariant c.in-Step.s c.take_gap-g.result = record { goes = stages.look_goes c.loop-r.invariant c.name-name.ensures c.look-seen.ensures _ c.in-Step.is; made = c.take_gap-g.ensures } in
-    let joins : Joins c.loop-r.invariant c.in-Step.s c.take_gap-g.result c.join-gj.result = record { gaps = gaps; joined = c.join-gj.ensures } in
-    let trims : Trims c.loop-r.invariant c.in-Step.s c.take_gap-g.result c.join-gj.result c.trim_end.result = record { joins = joins; trims = c.trim_end.ensures } in
-    let plans : Plans c.loop-r.invariant c.in-Step.s c.take_gap-g.result c.join-gj.result c.trim_end.result c.ref_chain_head-w.result c.saturating_sub-u.result c.turn_of-t.result c.plan_of-p.result = record { ready = trims; owner = c.ref_chain_head-w.ensures; below = c.saturating_sub-u.ensures; turns = c.turn_of-t.ensures; plan = c.plan_of-p.ensures } in
-    omega (arith, loop.slot_near plans)
-
-pub bounds-levels-slot : goal.bounds-levels-slot
-bounds-levels-slot g c =
-    let gaps : Gaps c.loop-r.invariant c.in-Step.s c.take_gap-g.result = record { goes = stages.look_goes c.loop-r.invariant c.name-name.ensures c.look-seen.ensures _ c.in-Step.is; made = c.take_gap-g.ensures } in
-    let joins : Joins c.loop-r.invariant c.in-Step.s c.take_gap-g.result c.join-gj.result = record { gaps = gaps; joined = c.join-gj.ensures } in
-    let trims : Trims c.loop-r.invariant c.in-Step.s c.take_gap-g.result c.join-gj.result c.trim_end.result = record { joins = joins; trims = c.trim_end.ensures } in
-    let plans : Plans c.loop-r.invariant c.in-Step.s c.take_gap-g.result c.join-gj.result c.trim_end.result c.ref_chain_head-w.result c.saturating_sub-u.result c.turn_of-t.result c.plan_of-p.result = record { ready = trims; owner = c.ref_chain_head-w.ensures; below = c.saturating_sub-u.ensures; turns = c.turn_of-t.ensures; plan = c.plan_of-p.ensures } in
-    loop.slot_near plans
-
-pub offset_bounds-elements-pl : goal.offset_bounds-elements-pl
-offset_bounds-elements-pl g c =
-    let gaps : Gaps c.loop-r.invariant c.in-Step.s c.take_gap-g.result = record { goes = stages.look_goes c.loop-r.invariant c.name-name.ensures c.look-seen.ensures _ c.in-Step.is; made = c.take_gap-g.ensures } in
-    let joins : Joins c.loop-r.invariant c.in-Step.s c.take_gap-g.result c.join-gj.result = record { gaps = gaps; joined = c.join-gj.ensures } in
-    let trims : Trims c.loop-r.invariant c.in-Step.s c.take_gap-g.result c.join-gj.result c.trim_end.result = record { joins = joins; trims = c.trim_end.ensures } in
-    let plans : Plans c.loop-r.invariant c.in-Step.s c.take_gap-g.result c.join-gj.result c.trim_end.result c.ref_chain_head-w.result c.saturating_sub-u.result c.turn_of-t.result c.plan_of-p.result = record { ready = trims; owner = c.ref_chain_head-w.ensures; below = c.saturating_sub-u.ensures; turns = c.turn_of-t.ensures; plan = c.plan_of-p.ensures } in
-    omega (arith, loop.planned_last plans)
-
-pub bounds-elements-pl : goal.bounds-elements-pl
-bounds-elements-pl g c =
-    let gaps : Gaps c.loop-r.invariant c.in-Step.s c.take_gap-g.result = record { goes = stages.look_goes c.loop-r.invariant c.name-name.ensures c.look-seen.ensures _ c.in-Step.is; made = c.take_gap-g.ensures } in
-    let joins : Joins c.loop-r.invariant c.in-Step.s c.take_gap-g.result c.join-gj.result = record { gaps = gaps; joined = c.join-gj.ensures } in
-    let trims : Trims c.loop-r.invariant c.in-Step.s c.take_gap-g.result c.join-gj.result c.trim_end.result = record { joins = joins; trims = c.trim_end.ensures } in
-    let plans : Plans c.loop-r.invariant c.in-Step.s c.take_gap-g.result c.join-gj.result c.trim_end.result c.ref_chain_head-w.result c.saturating_sub-u.result c.turn_of-t.result c.plan_of-p.result = record { ready = trims; owner = c.ref_chain_head-w.ensures; below = c.saturating_sub-u.ensures; turns = c.turn_of-t.ensures; plan = c.plan_of-p.ensures } in
-    loop.planned_last plans
-
-pub offset_bounds-elements-pl-in-Step : goal.offset_bounds-elements-pl-in-Step
-offset_bounds-elements-pl-in-Step g c =
-    let gaps : Gaps c.loop-r.invariant c.in-Step.s c.take_gap-g.result = record { goes = stages.look_goes c.loop-r.invariant c.name-name.ensures c.look-seen.ensures _ c.in-Step.is; made = c.take_gap-g.ensures } in
-    let joins : Joins c.loop-r.invariant c.in-Step.s c.take_gap-g.result c.join-gj.result = record { gaps = gaps; joined = c.join-gj.ensures } in
-    let trims : Trims c.loop-r.invariant c.in-Step.s c.take_gap-g.result c.join-gj.result c.trim_end.result = record { joins = joins; trims = c.trim_end.ensures } in
-    let plans : Plans c.loop-r.invariant c.in-Step.s c.take_gap-g.result c.join-gj.result c.trim_end.result c.ref_chain_head-w.result c.saturating_sub-u.result c.turn_of-t.result c.plan_of-p.result = record { ready = trims; owner = c.ref_chain_head-w.ensures; below = c.saturating_sub-u.ensures; turns = c.turn_of-t.ensures; plan = c.plan_of-p.ensures } in
-    omega (arith, loop.planned_last plans)
-
-pub bounds-elements-pl-in-Step : goal.bounds-elements-pl-in-Step
-bounds-elements-pl-in-Step g c =
-    let gaps : Gaps c.loop-r.invariant c.in-Step.s c.take_gap-g.result = record { goes = stages.look_goes c.loop-r.invariant c.name-name.ensures c.look-seen.ensures _ c.in-Step.is; made = c.take_gap-g.ensures } in
-    let joins : Joins c.loop-r.invariant c.in-Step.s c.take_gap-g.result c.join-gj.result = record { gaps = gaps; joined = c.join-gj.ensures } in
-    let trims : Trims c.loop-r.invariant c.in-Step.s c.take_gap-g.result c.join-gj.result c.trim_end.result = record { joins = joins; trims = c.trim_end.ensures } in
-    let plans : Plans c.loop-r.invariant c.in-Step.s c.take_gap-g.result c.join-gj.result c.trim_end.result c.ref_chain_head-w.result c.saturating_sub-u.result c.turn_of-t.result c.plan_of-p.result = record { ready = trims; owner = c.ref_chain_head-w.ensures; below = c.saturating_sub-u.ensures; turns = c.turn_of-t.ensures; plan = c.plan_of-p.ensures } in
-    loop.planned_last plans
-
-pub loop-r-smaller : goal.loop-r-smaller
-loop-r-smaller g c =
-    let gaps : Gaps c.loop-r.invariant c.in-Step.s c.take_gap-g.result = record { goes = stages.look_goes c.loop-r.invariant c.name-name.ensures c.look-seen.ensures _ c.in-Step.is; made = c.take_gap-g.ensures } in
-    let joins : Joins c.loop-r.invariant c.in-Step.s c.take_gap-g.result c.join-gj.result = record { gaps = gaps; joined = c.join-gj.ensures } in
-    let trims : Trims c.loop-r.invariant c.in-Step.s c.take_gap-g.result c.join-gj.result c.trim_end.result = record { joins = joins; trims = c.trim_end.ensures } in
-    let plans : Plans c.loop-r.invariant c.in-Step.s c.take_gap-g.result c.join-gj.result c.trim_end.result c.ref_chain_head-w.result c.saturating_sub-u.result c.turn_of-t.result c.plan_of-p.result = record { ready = trims; owner = c.ref_chain_head-w.ensures; below = c.saturating_sub-u.ensures; turns = c.turn_of-t.ensures; plan = c.plan_of-p.ensures } in
-    loop.less plans
-
-pub loop-r-preserved : goal.loop-r-preserved
-loop-r-preserved g c =
-    let gaps : Gaps c.loop-r.invariant c.in-Step.s c.take_gap-g.result = record { goes = stages.look_goes c.loop-r.invariant c.name-name.ensures c.look-seen.ensures _ c.in-Step.is; made = c.take_gap-g.ensures } in
-    let joins : Joins c.loop-r.invariant c.in-Step.s c.take_gap-g.result c.join-gj.result = record { gaps = gaps; joined = c.join-gj.ensures } in
-    let trims : Trims c.loop-r.invariant c.in-Step.s c.take_gap-g.result c.join-gj.result c.trim_end.result = record { joins = joins; trims = c.trim_end.ensures } in
-    let plans : Plans c.loop-r.invariant c.in-Step.s c.take_gap-g.result c.join-gj.result c.trim_end.result c.ref_chain_head-w.result c.saturating_sub-u.result c.turn_of-t.result c.plan_of-p.result = record { ready = trims; owner = c.ref_chain_head-w.ensures; below = c.saturating_sub-u.ensures; turns = c.turn_of-t.ensures; plan = c.plan_of-p.ensures } in
-    loop.next_held plans c.join-pj.ensures
-
-pub take_gap-rg-requires : goal.take_gap-rg-requires
-take_gap-rg-requires g c = omega (arith, c.loop-r.invariant.within)
-
-pub offset_bounds-elements-len-2 : goal.offset_bounds-elements-len-2
-offset_bounds-elements-len-2 g c = omega (arith, c.loop-r.invariant.within)
-
-pub bounds-elements-len-2 : goal.bounds-elements-len-2
-bounds-elements-len-2 g c = c.loop-r.invariant.within
-
-pub offset_bounds-elements-rl : goal.offset_bounds-elements-rl
-offset_bounds-elements-rl g c = omega (arith, loop.last_in c.loop-r.invariant)
-
-pub bounds-elements-rl : goal.bounds-elements-rl
-bounds-elements-rl g c = loop.last_in c.loop-r.invariant
-
-pub offset_bounds-elements-rl-2 : goal.offset_bounds-elements-rl-2
-offset_bounds-elements-rl-2 g c = omega (arith, loop.last_in c.loop-r.invariant)
-
-pub bounds-elements-rl-2 : goal.bounds-elements-rl-2
-bounds-elements-rl-2 g c = loop.last_in c.loop-r.invariant
+pub join-top-requires : goal.join-top-requires
+join-top-requires g c = omega (arith, length-set c.loop-r.elements c.loop-r.b.len c.take_gap-g.result.made, c.loop-r.invariant.kept.long, loop.last_in c.loop-r.invariant)
 
 pub write_tree-requires : goal.write_tree-requires
 write_tree-requires g c =
-    let rested : Rested c.args.text.now c.args.words.now c.args.o c.loop-r.elements c.loop-r.top c.loop-r.len c.loop-r.marks c.loop-r.here c.rest_of-rest.result c.take_gap-rg.result c.join-rj.result = record { good = c.requires.good; end = stages.look_ended c.loop-r.invariant c.name-name.ensures c.look-seen.ensures c.requires.good c.in-End.is c.unfinished.ensures c.if-unfinished.false; is = c.rest_of-rest.ensures; gap = c.take_gap-rg.ensures; joined = c.join-rj.ensures } in
-    (omega (arith, c.requires.size.1), (c.requires.good, (c.requires.size.1, record { body = _; holds = finishing.ended_holds rested })))
+    let rested : Rested c.args.text.now c.args.words.now c.args.o c.loop-r.elements c.loop-r.b.top c.loop-r.b.len c.loop-r.b.marks c.loop-r.b.here c.rest_of-rest.result c.take_gap-g.result =
+    record { good = c.requires.good; end = stages.look_ended c.loop-r.invariant c.name.ensures c.look.ensures c.requires.good c.in-End.is c.unfinished.ensures c.if-unfinished.false; is = c.rest_of-rest.ensures; gap = c.take_gap-g.ensures } in
+    (omega (arith, c.requires.size.1), (c.requires.good, (c.requires.size.1, finishing.ended_stored rested c.join-top.ensures)))
 
 pub returns : goal.returns
 returns g c =
-    let rested : Rested c.args.text.now c.args.words.now c.args.o c.loop-r.elements c.loop-r.top c.loop-r.len c.loop-r.marks c.loop-r.here c.rest_of-rest.result c.take_gap-rg.result c.join-rj.result = record { good = c.requires.good; end = stages.look_ended c.loop-r.invariant c.name-name.ensures c.look-seen.ensures c.requires.good c.in-End.is c.unfinished.ensures c.if-unfinished.false; is = c.rest_of-rest.ensures; gap = c.take_gap-rg.ensures; joined = c.join-rj.ensures } in
-    finishing.ended_answer rested c.write_tree.ensures.short c.write_tree.ensures.lists
+    let rested : Rested c.args.text.now c.args.words.now c.args.o c.loop-r.elements c.loop-r.b.top c.loop-r.b.len c.loop-r.b.marks c.loop-r.b.here c.rest_of-rest.result c.take_gap-g.result =
+    record { good = c.requires.good; end = stages.look_ended c.loop-r.invariant c.name.ensures c.look.ensures c.requires.good c.in-End.is c.unfinished.ensures c.if-unfinished.false; is = c.rest_of-rest.ensures; gap = c.take_gap-g.ensures } in
+    finishing.ended_answer rested c.join-top.ensures c.write_tree.ensures
