@@ -55,6 +55,10 @@ reverted x rest = record { opened = x.opened; block = x.block; head = rest; firs
 
 -- ---- plans
 
+-- one more body, element and else-if have a number
+abbrev pub OpenFits : Open → Type 0
+OpenFits o = (o.depth ≤ 64) × (o.len ≤ 8192) × (o.count ≤ 64)
+
 -- nothing happens, or `join` joins the body on top
 abbrev pub plain_plan : Open → Element → ℕ → ℕ → Plan
 plain_plan o made len join =

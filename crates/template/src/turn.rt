@@ -2,7 +2,7 @@
 // open body, the frames, and what joins the body. What does not change is stored again as it was.
 ghost use Rattle.std.specs.Prelude.{◌≡◌, ◌≤◌, ◌<◌, length};
 ghost use Rattle.template.specs.Element.{empty_element};
-ghost use Rattle.template.specs.Turn.{ref_chain_head, emptied, filled, plain_plan, begin_plan, chain_plan, template_plan, shut_plan, revert_plan, inverse_plan, close_plan, add_plan, act_plan, plan_of, turn_of, JoinedIs, gapped_of, TurnFits, TurnIs};
+ghost use Rattle.template.specs.Turn.{OpenFits, ref_chain_head, emptied, filled, plain_plan, begin_plan, chain_plan, template_plan, shut_plan, revert_plan, inverse_plan, close_plan, add_plan, act_plan, plan_of, turn_of, JoinedIs, gapped_of, TurnFits, TurnIs};
 
 use crate::element::Element;
 use crate::frame::{Frame, Marks, Opened};
@@ -39,6 +39,7 @@ pub struct Plan {
 }
 
 // What is open when a turn begins.
+// Stays: `OpenFits` as a ghost field, since the laws are for an `Open` with any numbers.
 #[derive(Clone, Copy)]
 pub struct Open {
     pub top: Frame,
@@ -94,7 +95,7 @@ fn still(o: Open) -> Plan
 }
 
 fn begin(o: Open, made: Element, opened: Opened) -> Plan
-    requires { (o.depth ≤ 64) × (o.len ≤ 8192) × (o.count ≤ 64) }
+    requires { OpenFits o }
     ensures { result ≡ begin_plan o made opened }
 {
     Plan {
@@ -109,7 +110,7 @@ fn begin(o: Open, made: Element, opened: Opened) -> Plan
 
 // The open body becomes its owner's; the next branch begins.
 fn chain(o: Open, made: Element) -> Plan
-    requires { (o.depth ≤ 64) × (o.len ≤ 8192) × (o.count ≤ 64) }
+    requires { OpenFits o }
     ensures { result ≡ chain_plan o made }
 {
     Plan {
@@ -190,7 +191,7 @@ fn close(o: Open) -> Plan
 }
 
 fn plan_add(e: Element, added: Added, o: Open) -> Plan
-    requires { (o.depth ≤ 64) × (o.len ≤ 8192) × (o.count ≤ 64) }
+    requires { OpenFits o }
     ensures { result ≡ add_plan e added o }
 {
     match added {
@@ -201,7 +202,7 @@ fn plan_add(e: Element, added: Added, o: Open) -> Plan
 }
 
 fn plan_act(a: Act, o: Open) -> Plan
-    requires { (o.depth ≤ 64) × (o.len ≤ 8192) × (o.count ≤ 64) }
+    requires { OpenFits o }
     ensures { result ≡ act_plan a o }
 {
     match a {
@@ -213,7 +214,7 @@ fn plan_act(a: Act, o: Open) -> Plan
 }
 
 pub(crate) fn plan_of(t: Turn, o: Open) -> Plan
-    requires { (o.depth ≤ 64) × (o.len ≤ 8192) × (o.count ≤ 64) }
+    requires { OpenFits o }
     ensures { result ≡ plan_of t o }
 {
     match t {

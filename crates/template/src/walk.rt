@@ -34,40 +34,31 @@ pub(crate) fn look(
     ensures { LookIs text.now words.now o v at closing result }
 {
     if closing {
-        let m = v.marks;
-        let h = v.here;
-        return Visit::Step(Step {
+        Visit::Step(Step {
             gapped: false,
             gap: Element::EMPTY,
             back: Back::Kept,
             act: Act::Skip,
-            marks: m,
-            here: h,
+            marks: v.marks,
+            here: v.here,
             next: at,
-        });
+        })
+    } else {
+        visit_span(text, starts, ends, words, o, v, at)
     }
-    visit_span(text, starts, ends, words, o, v, at)
 }
 
 // 7 at the end of the list.
 pub(crate) fn unfinished(text: &[u8], m: Marks, depth: usize) -> bool
     ensures { result ≡ unfinished_at text.now m depth }
 {
-    let g = m.stage;
-    if is_filling(g) {
-        if 0 < depth {
-            return true;
-        }
-        return m.end_pos < text.len() && !m.started;
-    }
-    true
+    !is_filling(m.stage) || 0 < depth || m.end_pos < text.len() && !m.started
 }
 
 // The text after the last previous end.
 pub(crate) fn rest_of(text: &[u8], words: &[u32], m: Marks, h: Here) -> Element
     ensures { RestIs text.now words.now m h result }
 {
-    let from = h.place;
     Element::new(
         TemplateElement::RawString(RawString {
             start: m.end_pos,
@@ -76,7 +67,7 @@ pub(crate) fn rest_of(text: &[u8], words: &[u32], m: Marks, h: Here) -> Element
             front: Front::Kept,
             back: Back::Kept,
         }),
-        line_col(from, part(text, h.at, m.end_pos)),
+        line_col(h.place, part(text, h.at, m.end_pos)),
     )
 }
 
