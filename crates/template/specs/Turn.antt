@@ -151,6 +151,7 @@ module _ (st : List Element) (lv : List Frame) (b : Standing) (s : Step) where
   abbrev pub gap_joined : Joined
   gap_joined = joined_of b.top (element_at (set st b.len gap_made.made) b.top.last) gap_made.join
 
+  -- the store with both
   abbrev pub gap_store : List Element
   gap_store = set (set st b.len gap_made.made) b.top.last gap_joined.last
 
@@ -158,22 +159,25 @@ module _ (st : List Element) (lv : List Frame) (b : Standing) (s : Step) where
   abbrev pub text_trimmed : Element
   text_trimmed = trim_end_of (element_at gap_store gap_joined.top.last) s.back
 
+  -- the store with the text trimmed
   abbrev pub trim_store : List Element
   trim_store = set gap_store gap_joined.top.last text_trimmed
 
-  -- the act is planned
+  -- the owner of the open body
   abbrev pub owner_at : ℕ
   owner_at = ref_chain_head gap_joined.top.block gap_joined.top.head
 
+  -- the act is planned
   abbrev pub act_planned : Plan
   act_planned =
       plan_of (turn_of b.closing gap_joined.top.head s.act)
       (record { top = gap_joined.top; below = get_or lv (b.depth - 1) empty_frame; owner = element_at trim_store owner_at; depth = b.depth; len = gap_made.len; count = b.count })
 
-  -- what it makes is stored, and joins a body
+  -- the store with what the plan makes
   abbrev pub act_store : List Element
   act_store = set (set trim_store gap_made.len act_planned.made) owner_at act_planned.owner
 
+  -- an element joins the body that is on top then
   abbrev pub act_joined : Joined
   act_joined = joined_of act_planned.top (element_at act_store act_planned.top.last) act_planned.join
 
