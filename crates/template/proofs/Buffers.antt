@@ -1,13 +1,12 @@
 -- From the buffer to the output: the listing that the walk made there is handed over, or is too long for the output, or is made again in
 -- the output, which has room for it. Assumes nothing.
-use Prim.Native.Nat.{ℕ, ◌+◌, ◌≤◌, ◌<◌}
+use Prim.Native.Nat.{ℕ, ◌≤◌, ◌<◌}
 use native.Mathlib.Omega.{arith}
 use native.Mathlib.Nat.{zero-add}
-use native.Mathlib.Numerals.{add-one}
 use mathlib.Core.Path.{◌≡◌, refl, sym, ap, subst, ◌∙◌}
 use mathlib.Core.List.{List, ◌++◌}
-use lib.ListN.{length, get_or, set, take, drop}
-use lib.Seq.{sets, sets-eq, paste, paste-suc, length-paste, take-append_seam}
+use lib.ListN.{length, take, drop}
+use lib.Seq.{sets, sets-eq, take-append_seam}
 use borrow.Author.Tests.{lt-ltb, le-ltb}
 use Rattle.support.specs.Bytes.{Bytes}
 use Rattle.listing.specs.Reading.{Body}
@@ -20,18 +19,6 @@ use Rattle.template.specs.Finish.{walk_listing, walk_answer, Buffers, BufferedMe
 use Rattle.template.specs.declared.compile.Answer.{Answer}
 use Rattle.template.specs.declared.compile.Answer.TheVariants.{Listed, Refused}
 use Rattle.template.specs.declared.visit.Options.{Options}
-
--- one more byte is copied
-pub copied_more : {l : Bytes} (d s : Bytes) (i : ℕ) → l ≡ paste d 0 s i → i < length d → i < length s → set l i (get_or s i 0) ≡ paste d 0 s (i + 1)
-copied_more d s i e h g =
-    ap (λ k. set k i (get_or s i 0)) e ∙ ap (λ k. set (paste d 0 s i) k (get_or s i 0)) (sym (zero-add i)) ∙ paste-suc d 0 s i 0 (omega arith) g
-    ∙ ap (paste d 0 s) (sym (add-one i))
-
-pub copied_length : {l : Bytes} (d s : Bytes) (i : ℕ) → l ≡ paste d 0 s i → i ≤ length d → i ≤ length s → length l ≡ length d
-copied_length d s i e h g = ap length e ∙ length-paste d 0 s i (omega arith) g
-
-pub copied_all : {l : Bytes} (d s : Bytes) (i n : ℕ) → l ≡ paste d 0 s i → i ≤ n → n ≤ i → l ≡ paste d 0 s n
-copied_all d s i n e h g = let q : i ≡ n = omega arith in e ∙ ap (paste d 0 s) q
 
 -- the answer, from the listing
 fitted : (text : Bytes) (words : List ℕ) (o : Options) (room : ℕ) {x : Result Bytes} → walk_listing text words o ≡ x → walk_answer text words o room ≡ and_then x (fit room)
@@ -70,7 +57,7 @@ module _ (text : Bytes) (words : List ℕ) (o : Options) {l m : Bytes} {a : Answ
         let b = listing_made e in
         record { means = (fitted text words o (length out) b.answer ∙ too_big b.bytes (length out) (omega (arith, b.count)) ∙ ap (refused 14) (sym b.count), refl) }
 
-    pub handed_over : {k : Bytes} → n ≤ length out → n ≤ length l → k ≡ paste out 0 m n → AnswerIs (walk_answer text words o (length out)) out k (Listed n)
+    pub handed_over : {k : Bytes} → n ≤ length out → n ≤ length l → k ≡ take n m → AnswerIs (walk_answer text words o (length out)) out (k ++ drop n out) (Listed n)
     handed_over h g c =
         let b = listing_made e in
         let whole : take n m ≡ b.bytes =
@@ -80,7 +67,7 @@ module _ (text : Bytes) (words : List ℕ) (o : Options) {l m : Bytes} {a : Answ
             bytes = b.bytes;
             answer = fitted text words o (length out) b.answer ∙ fits b.bytes (length out) (omega (arith, b.count));
             count = b.count;
-            output = c ∙ ap (◌++ drop (0 + n) out) whole ∙ ap (λ i. b.bytes ++ drop i out) (zero-add n ∙ b.count);
+            output = ap (◌++ drop n out) (c ∙ whole) ∙ ap (λ i. b.bytes ++ drop i out) b.count;
           };
         }
 

@@ -1,15 +1,18 @@
 -- The end of the walk: whether it is unfinished, the text that is left, and the listing.
-use Rattle.std.specs.Prelude.{ℕ, ◌≡◌, List, Bool, ◌&&◌, ◌||◌, not, ltb, length}
+use Rattle.std.specs.Prelude.{ℕ, ◌≡◌, ◌<◌, List, Bool, ◌&&◌, ◌||◌, not, ltb, length}
 use Rattle.std.proofs.lemmas.List.Edits.{sets}
 use Rattle.support.specs.Bytes.{Bytes, part}
 use Rattle.support.specs.Position.{place_of, line_col}
 use Rattle.json_path.specs.Span.{span_count}
-use Rattle.listing.specs.Listing.{listing}
+use Rattle.listing.specs.Tree.{Body}
+use Rattle.listing.specs.Listing.{write, listing}
+use Rattle.listing.specs.Written.{largest, Written}
 use Rattle.template.specs.Result.{Result, accepted, refused, ◌>>=◌}
 use Rattle.template.specs.Nests.{is_filling}
 use Rattle.template.specs.Walk.{read_spans}
 use Rattle.template.specs.Compile.{fit}
 use Rattle.template.specs.Element.{new_element}
+use Rattle.template.specs.Store.{Holds}
 use Rattle.template.specs.Visit.{stage_means}
 use Rattle.template.specs.declared.compile.Answer.{Answer}
 use Rattle.template.specs.declared.compile.Answer.TheVariants.{Listed, Refused}
@@ -46,6 +49,11 @@ abbrev pub walk_answer : Bytes → List ℕ → Options → ℕ → Result Bytes
 walk_answer text words o room = do
   r ← read_spans text words o.prevent_indent o.is_partial
   fit room (listing r)
+
+-- whatever tree the store holds from `first` on is listed, and the listing has n bytes: the output was l and is m
+pub record TreeIs (text : Bytes) (words : List ℕ) (st : List Element) (first : ℕ) (l m : Bytes) (n : ℕ) : Type 0 where
+  pub lists : (b : Body) → Holds text words st first b → Written (write b) l 0 m n
+  pub short : n < largest
 
 -- the listing has n bytes, and as many of them as there is room for are stored: the output was l and is m
 pub record Buffers (x : Result Bytes) (l m : Bytes) (n : ℕ) : Type 0 where

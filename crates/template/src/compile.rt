@@ -1,6 +1,5 @@
 // `compile2`: a text, its span words and options to a listing, or a number and a place.
-ghost use Rattle.std.specs.Prelude.{◌*◌, ◌≤◌, ◌<◌, ◌≡◌, length};
-ghost use Rattle.std.proofs.Math.Seq.{paste};
+ghost use Rattle.std.specs.Prelude.{◌*◌, ◌≤◌, ◌<◌, length};
 ghost use Rattle.json_path.specs.Span.{span_count};
 ghost use Rattle.template.specs.Compile.{answer};
 ghost use Rattle.template.specs.Answers.{AnswerIs};
@@ -11,7 +10,6 @@ use crate::element::Element;
 use crate::frame::Marks;
 use crate::lines::find_lines;
 use crate::reason::{Checked, checks};
-use crate::small::walk_small;
 use crate::visit::Options;
 use crate::walk::walk;
 use json_path::span::span_count;
@@ -32,92 +30,45 @@ impl Answer {
     pub const SMALL: usize = 16384;
 }
 
-// Copies the first `n` bytes.
-fn copy_front(out: &mut [u8], bytes: &[u8], n: usize)
-    requires { (n ≤ length out.old) × (n ≤ length bytes.now) }
-    ensures { out.new ≡ paste out.old 0 bytes.now n }
-{
-    let mut i: usize = 0;
-    while i < n {
-        out[i] = bytes[i];
-        i += 1;
-    }
+impl Marks {
+    // How many cells a table of lines has: one for each offset, that of the end among them.
+    pub const LINES: usize = Marks::TEXT + 1;
+
+    pub const SHORT_LINES: usize = Marks::SHORT + 1;
 }
 
 // The tree is listed into a buffer, since the output stays as it was if the listing is too long for it. A
-// listing that is longer than the buffer and fits the output is made again, there.
-fn compile_large(text: &[u8], words: &[u32], o: Options, out: &mut [u8]) -> Answer
-    requires { Good text.now words.now }
-    ensures { AnswerIs (walk_answer text.now words.now o (length out.old)) out.old out.new result }
-{
-    let mut starts = [false; Marks::TEXT + 1];
-    let mut ends = [false; Marks::TEXT + 1];
-    find_lines(text, &mut starts, &mut ends);
-    let mut buffer = [0u8; Answer::LARGE];
-    let a = walk(text, &starts, &ends, words, o, &mut buffer);
-    match a {
-        Answer::Refused(number, place) => Answer::Refused(number, place),
-        Answer::Listed(n) => {
-            if out.len() < n {
-                return Answer::Refused(14, n);
-            }
-            if Answer::LARGE < n {
-                return walk(text, &starts, &ends, words, o, out);
-            }
-            copy_front(out, &buffer, n);
-            Answer::Listed(n)
-        }
-    }
-}
-
-// The same for at most 320 spans.
-fn compile_few(text: &[u8], words: &[u32], o: Options, out: &mut [u8]) -> Answer
+// listing that is longer than the buffer and fits the output is made again, there. The sizes are those of the
+// tables of lines, of the store and of the buffer: to fill long arrays would take a tenth of the time of a
+// short text with few spans.
+fn compile_in<const LINES: usize, const STORE: usize, const ROOM: usize>(
+    text: &[u8],
+    words: &[u32],
+    o: Options,
+    out: &mut [u8],
+) -> Answer
     requires good { Good text.now words.now }
-    requires few { 2 * span_count words.now < 641 }
+    requires short { length text.now < LINES }
+    requires few { 2 * span_count words.now < STORE }
+    requires size { (1 < STORE) × (STORE ≤ 8193) }
+    requires lent { (LINES ≤ 16385) × (ROOM ≤ 131072) }
     ensures { AnswerIs (walk_answer text.now words.now o (length out.old)) out.old out.new result }
 {
-    let mut starts = [false; Marks::TEXT + 1];
-    let mut ends = [false; Marks::TEXT + 1];
+    let mut starts = [false; LINES];
+    let mut ends = [false; LINES];
     find_lines(text, &mut starts, &mut ends);
-    let mut buffer = [0u8; Answer::FEW];
-    let a = walk_small(text, &starts, &ends, words, o, &mut buffer);
+    let mut buffer = [0u8; ROOM];
+    let a = walk::<STORE>(text, &starts, &ends, words, o, &mut buffer);
     match a {
         Answer::Refused(number, place) => Answer::Refused(number, place),
         Answer::Listed(n) => {
             if out.len() < n {
                 return Answer::Refused(14, n);
             }
-            if Answer::FEW < n {
-                return walk_small(text, &starts, &ends, words, o, out);
+            if ROOM < n {
+                return walk::<STORE>(text, &starts, &ends, words, o, out);
             }
-            copy_front(out, &buffer, n);
-            Answer::Listed(n)
-        }
-    }
-}
-
-// The same, with a short text as well: to fill long arrays would take a tenth of the whole time.
-fn compile_small(text: &[u8], words: &[u32], o: Options, out: &mut [u8]) -> Answer
-    requires good { Good text.now words.now }
-    requires few { 2 * span_count words.now < 641 }
-    requires short { length text.now ≤ 2048 }
-    ensures { AnswerIs (walk_answer text.now words.now o (length out.old)) out.old out.new result }
-{
-    let mut starts = [false; Marks::SHORT + 1];
-    let mut ends = [false; Marks::SHORT + 1];
-    find_lines(text, &mut starts, &mut ends);
-    let mut buffer = [0u8; Answer::SMALL];
-    let a = walk_small(text, &starts, &ends, words, o, &mut buffer);
-    match a {
-        Answer::Refused(number, place) => Answer::Refused(number, place),
-        Answer::Listed(n) => {
-            if out.len() < n {
-                return Answer::Refused(14, n);
-            }
-            if Answer::SMALL < n {
-                return walk_small(text, &starts, &ends, words, o, out);
-            }
-            copy_front(out, &buffer, n);
+            out[..n].copy_from_slice(&buffer[..n]);
             Answer::Listed(n)
         }
     }
@@ -136,14 +87,19 @@ pub fn compile2(text: &[u8], spans: &[u32], options: u32, out: &mut [u8]) -> Ans
                 prevent_indent: options % 2 == 1,
                 is_partial: options / 2 % 2 == 1,
             };
-            let count = span_count(spans);
-            if Element::SMALL <= 2 * count {
-                return compile_large(text, spans, o, out);
+            if Element::SMALL <= 2 * span_count(spans) {
+                compile_in::<{ Marks::LINES }, { Element::LIMIT }, { Answer::LARGE }>(
+                    text, spans, o, out,
+                )
+            } else if Marks::SHORT < text.len() {
+                compile_in::<{ Marks::LINES }, { Element::SMALL }, { Answer::FEW }>(
+                    text, spans, o, out,
+                )
+            } else {
+                compile_in::<{ Marks::SHORT_LINES }, { Element::SMALL }, { Answer::SMALL }>(
+                    text, spans, o, out,
+                )
             }
-            if Marks::SHORT < text.len() {
-                return compile_few(text, spans, o, out);
-            }
-            compile_small(text, spans, o, out)
         }
     }
 }

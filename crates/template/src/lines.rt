@@ -5,14 +5,12 @@ ghost use Rattle.template.specs.Lines.{line_across, StartsAre, EndsAre, LinesAre
 
 use support::str::{newline_matcher, whitespace_matcher};
 
-// Whether there is an empty line on one side of `c`; `line`: on its other side.
+// Whether there is an empty line on one side of `c`; `line`: on its other side. Not by branches, which would be
+// mispredicted at each blank between words.
 fn line_across(c: u8, line: bool) -> bool
     ensures { result ≡ line_across c line }
 {
-    if whitespace_matcher(c) {
-        return line;
-    }
-    newline_matcher(c)
+    (whitespace_matcher(c) & line) | newline_matcher(c)
 }
 
 // None starts at the end of the text; before it, by the byte that follows.
@@ -20,11 +18,9 @@ fn find_line_starts(text: &[u8], starts: &mut [bool])
     requires { length text.now < length starts.old }
     ensures { StartsAre text.now starts.new }
 {
-    let mut i = text.len();
     let mut line = false;
-    starts[i] = line;
-    while 0 < i {
-        i -= 1;
+    starts[text.len()] = line;
+    for i in (0..text.len()).rev() {
         line = line_across(text[i], line);
         starts[i] = line;
     }
@@ -35,13 +31,11 @@ fn find_line_ends(text: &[u8], ends: &mut [bool])
     requires { length text.now < length ends.old }
     ensures { EndsAre text.now ends.new }
 {
-    let mut i = 0;
     let mut line = true;
-    ends[i] = line;
-    while i < text.len() {
-        line = line_across(text[i], line);
-        i += 1;
-        ends[i] = line;
+    ends[0] = line;
+    for (i, c) in text.iter().enumerate() {
+        line = line_across(*c, line);
+        ends[i + 1] = line;
     }
 }
 

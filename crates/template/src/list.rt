@@ -37,10 +37,7 @@ impl Waiting {
     pub(crate) fn new(block: usize, inverse: bool) -> Waiting
         ensures { result ≡ waits block inverse }
     {
-        Waiting {
-            block: block,
-            inverse: inverse,
-        }
+        Waiting { block, inverse }
     }
 }
 
@@ -48,8 +45,8 @@ fn link_of(from: usize, limit: usize) -> Subexpression
     ensures { result ≡ link_of from limit }
 {
     Subexpression {
-        from: from,
-        limit: limit,
+        from,
+        limit,
         depth: Subexpression::LIMIT,
     }
 }
@@ -236,10 +233,7 @@ pub(crate) fn write_element(
 pub(crate) fn has_else(e: Element, w: Waiting) -> bool
     ensures { result ≡ (e.inverted && not w.inverse) }
 {
-    if e.inverted {
-        return !w.inverse;
-    }
-    false
+    e.inverted && !w.inverse
 }
 
 // The end of a body: more of the block follows, its else, or the block ends too.
@@ -257,28 +251,19 @@ pub(crate) fn deeper(depth: usize, more: bool) -> usize
     requires { depth < 8193 }
     ensures { result ≡ deeper depth more }
 {
-    if more {
-        return depth + 1;
-    }
-    depth
+    if more { depth + 1 } else { depth }
 }
 
 // What comes after an element's opening: its body, if it has one.
 pub(crate) fn link_inside(e: Element, more: bool) -> usize
     ensures { result ≡ link_inside e more }
 {
-    if more {
-        return e.template;
-    }
-    e.next
+    if more { e.template } else { e.next }
 }
 
 // What comes after a body: the block's else, if that is still to be listed.
 pub(crate) fn link_behind(e: Element, more: bool) -> usize
     ensures { result ≡ link_behind e more }
 {
-    if more {
-        return e.inverse;
-    }
-    e.next
+    if more { e.inverse } else { e.next }
 }

@@ -46,10 +46,10 @@ fn piece_end(words: &[u32], c: Cut) -> usize
     ensures { result ≡ piece_end words.now c }
 {
     if c.first < c.last {
-        let x = span_at(words, c.first);
-        return x.start;
+        span_at(words, c.first).start
+    } else {
+        c.end
     }
-    c.end
 }
 
 fn without_first(c: Cut, end: usize) -> Cut
@@ -58,21 +58,15 @@ fn without_first(c: Cut, end: usize) -> Cut
 {
     Cut {
         start: end + 1,
-        end: c.end,
         first: c.first + 1,
-        last: c.last,
+        ..c
     }
 }
 
 fn from_start(c: Cut, start: usize) -> Cut
     ensures { result ≡ from_start c start }
 {
-    Cut {
-        start: start,
-        end: c.end,
-        first: c.first,
-        last: c.last,
-    }
+    Cut { start, ..c }
 }
 
 // How many bytes are left of a piece whose front is trimmed.
@@ -80,11 +74,10 @@ fn front_left(piece: &[u8], white: bool) -> usize
     ensures { result ≡ length (start_trim white piece.now) }
 {
     if white {
-        let s = trim_start(piece);
-        return s.len();
+        trim_start(piece).len()
+    } else {
+        trim_start_blanks(piece).len()
     }
-    let s = trim_start_blanks(piece);
-    s.len()
 }
 
 // The front trimmed of White_Space, or of blanks.
@@ -169,10 +162,10 @@ fn piece_start(words: &[u32], c: Cut) -> usize
     ensures { result ≡ piece_start words.now c }
 {
     if c.first < c.last {
-        let x = span_at(words, c.last - 1);
-        return x.start + 1;
+        span_at(words, c.last - 1).start + 1
+    } else {
+        c.start
     }
-    c.start
 }
 
 fn without_last(c: Cut, start: usize) -> Cut
@@ -180,22 +173,16 @@ fn without_last(c: Cut, start: usize) -> Cut
     ensures { result ≡ without_last c start }
 {
     Cut {
-        start: c.start,
         end: start - 1,
-        first: c.first,
         last: c.last - 1,
+        ..c
     }
 }
 
 fn to_end(c: Cut, end: usize) -> Cut
     ensures { result ≡ to_end c end }
 {
-    Cut {
-        start: c.start,
-        end: end,
-        first: c.first,
-        last: c.last,
-    }
+    Cut { end, ..c }
 }
 
 // How many bytes are left of a piece whose end is trimmed.
@@ -203,14 +190,14 @@ fn back_left(piece: &[u8], white: bool) -> usize
     ensures { result ≡ length (end_trim white piece.now) }
 {
     if white {
-        let s = trim_end(piece);
-        return s.len();
+        trim_end(piece).len()
+    } else {
+        trim_end_blanks(piece).len()
     }
-    let s = trim_end_blanks(piece);
-    s.len()
 }
 
 // The end trimmed of White_Space, or of blanks.
+// Stays: the mirror of `trim_front`, since one function for both ends would take each of its five steps as a closure.
 fn trim_back(text: &[u8], words: &[u32], cut: Cut, white: bool) -> Cut
     requires { CutGood text.now words.now cut }
     ensures { CutIs text.now words.now (end_trim white (cut_means text.now words.now cut)) result }
@@ -270,15 +257,18 @@ pub(crate) fn write_raw(
     requires { Good text.now words.now × RawGood text.now words.now r }
     ensures { Written (quoted (raw_means text.now words.now r)) out.old at out.new result }
 {
-    let front = r.front;
-    let back = r.back;
     let whole = Cut {
         start: r.start,
         end: r.end,
         first: r.escapes,
         last: last_escape(words, r.escapes, r.end),
     };
-    let c = trimmed_back(text, words, trimmed_front(text, words, whole, front), back);
+    let c = trimmed_back(
+        text,
+        words,
+        trimmed_front(text, words, whole, r.front),
+        r.back,
+    );
     let p = put(out, at, b'"');
     let q = write_cut(out, p, text, words, c);
     put(out, q, b'"')

@@ -1,46 +1,19 @@
 // What a turn of the walk does to the store, as values: the element that is made, the owner of the
 // open body, the frames, and what joins the body. What does not change is stored again as it was.
-ghost use Rattle.std.specs.Prelude.{◌≡◌, ◌≤◌, ◌-◌};
-ghost use Rattle.template.specs.Turn.{head_of, ref_chain_head, emptied, filled, plain_plan, begin_plan, chain_plan, template_plan, shut_plan, revert_plan, inverse_plan, close_plan, add_plan, act_plan, plan_of, turn_of, joined_of, gapped_of};
+ghost use Rattle.std.specs.Prelude.{◌≡◌, ◌≤◌, ◌<◌, length};
+ghost use Rattle.template.specs.Element.{empty_element};
+ghost use Rattle.template.specs.Turn.{OpenFits, ref_chain_head, emptied, filled, plain_plan, begin_plan, chain_plan, template_plan, shut_plan, revert_plan, inverse_plan, close_plan, add_plan, act_plan, plan_of, turn_of, JoinedIs, gapped_of, TurnFits, TurnIs};
 
 use crate::element::Element;
-use crate::frame::{Frame, Opened};
-use crate::visit::{Act, Added};
-
-// The newest else-if node of an open block, if it has one.
-#[derive(Clone, Copy)]
-pub enum ChainHead {
-    None,
-    Node(usize),
-}
-
-fn chain_head(head: usize) -> ChainHead
-    ensures { result ≡ head_of head }
-{
-    if head == 0 {
-        return ChainHead::None;
-    }
-    ChainHead::Node(head)
-}
+use crate::frame::{Frame, Marks, Opened};
+use crate::visit::{Act, Added, Here, Step};
+use support::position::Place;
 
 // The element that the open body belongs to: the newest else-if node, or the block.
 pub(crate) fn ref_chain_head(block: usize, head: usize) -> usize
     ensures { result ≡ ref_chain_head block head }
 {
-    let h = chain_head(head);
-    let ChainHead::Node(node) = h else {
-        return block;
-    };
-    node
-}
-
-pub(crate) fn less(x: usize) -> usize
-    ensures { result ≡ x - 1 }
-{
-    if 0 < x {
-        return x - 1;
-    }
-    0
+    if head == 0 { block } else { head }
 }
 
 // A turn: the act of a span; an else-if node is turned round; the block is complete.
@@ -65,14 +38,8 @@ pub struct Plan {
     pub closing: bool,
 }
 
-// The frame and the last element of its body, with `at` behind them.
-#[derive(Clone, Copy)]
-pub struct Joined {
-    pub top: Frame,
-    pub last: Element,
-}
-
 // What is open when a turn begins.
+// Stays: `OpenFits` as a ghost field, since the laws are for an `Open` with any numbers.
 #[derive(Clone, Copy)]
 pub struct Open {
     pub top: Frame,
@@ -87,15 +54,11 @@ pub struct Open {
 fn emptied(f: Frame, inverted: bool) -> Frame
     ensures { result ≡ emptied f inverted }
 {
-    let opened = f.opened;
     Frame {
-        opened: opened,
-        block: f.block,
-        head: f.head,
         first: 0,
         last: 0,
-        chain: f.chain,
-        inverted: inverted,
+        inverted,
+        ..f
     }
 }
 
@@ -103,87 +66,62 @@ fn emptied(f: Frame, inverted: bool) -> Frame
 fn filled(f: Frame, first: usize, last: usize) -> Frame
     ensures { result ≡ filled f first last }
 {
-    let opened = f.opened;
-    Frame {
-        opened: opened,
-        block: f.block,
-        head: f.head,
-        first: first,
-        last: last,
-        chain: f.chain,
-        inverted: f.inverted,
-    }
+    Frame { first, last, ..f }
 }
 
 // Nothing happens, or `join` joins the body on top.
 fn plain(o: Open, made: Element, len: usize, join: usize) -> Plan
     ensures { result ≡ plain_plan o made len join }
 {
-    let owner = o.owner;
-    let top = o.top;
-    let below = o.below;
     Plan {
-        made: made,
-        owner: owner,
-        top: top,
-        put: below,
-        slot: less(o.depth),
+        made,
+        owner: o.owner,
+        top: o.top,
+        put: o.below,
+        slot: o.depth.saturating_sub(1),
         depth: o.depth,
-        len: len,
+        len,
         count: o.count,
-        join: join,
+        join,
         closing: false,
     }
 }
 
+// Nothing happens and nothing is made.
+fn still(o: Open) -> Plan
+    ensures { result ≡ plain_plan o empty_element o.len 0 }
+{
+    plain(o, Element::EMPTY, o.len, 0)
+}
+
 fn begin(o: Open, made: Element, opened: Opened) -> Plan
-    requires { (o.depth ≤ 64) × (o.len ≤ 8192) × (o.count ≤ 64) }
+    requires { OpenFits o }
     ensures { result ≡ begin_plan o made opened }
 {
-    let owner = o.owner;
-    let top = o.top;
     Plan {
-        made: made,
-        owner: owner,
         top: Frame::new(opened, o.len),
-        put: top,
+        put: o.top,
         slot: o.depth,
         depth: o.depth + 1,
-        len: o.len + 1,
         count: o.count + 1,
-        join: 0,
-        closing: false,
+        ..plain(o, made, o.len + 1, 0)
     }
 }
 
 // The open body becomes its owner's; the next branch begins.
 fn chain(o: Open, made: Element) -> Plan
-    requires { (o.depth ≤ 64) × (o.len ≤ 8192) × (o.count ≤ 64) }
+    requires { OpenFits o }
     ensures { result ≡ chain_plan o made }
 {
-    let owner = o.owner;
-    let top = o.top;
-    let below = o.below;
-    let opened = top.opened;
     Plan {
-        made: made.insert_inverse_node(top.head),
-        owner: owner.set_template(top.first),
+        owner: o.owner.set_template(o.top.first),
         top: Frame {
-            opened: opened,
-            block: top.block,
             head: o.len,
-            first: 0,
-            last: 0,
             chain: true,
-            inverted: false,
+            ..emptied(o.top, false)
         },
-        put: below,
-        slot: less(o.depth),
-        depth: o.depth,
-        len: o.len + 1,
         count: o.count + 1,
-        join: 0,
-        closing: false,
+        ..plain(o, made.insert_inverse_node(o.top.head), o.len + 1, 0)
     }
 }
 
@@ -191,20 +129,11 @@ fn chain(o: Open, made: Element) -> Plan
 fn set_chain_template(o: Open, inverted: bool, closing: bool) -> Plan
     ensures { result ≡ template_plan o inverted closing }
 {
-    let owner = o.owner;
-    let top = o.top;
-    let below = o.below;
     Plan {
-        made: Element::EMPTY,
-        owner: owner.set_template(top.first),
-        top: emptied(top, inverted),
-        put: below,
-        slot: less(o.depth),
-        depth: o.depth,
-        len: o.len,
-        count: o.count,
-        join: 0,
-        closing: closing,
+        owner: o.owner.set_template(o.top.first),
+        top: emptied(o.top, inverted),
+        closing,
+        ..still(o)
     }
 }
 
@@ -212,20 +141,9 @@ fn set_chain_template(o: Open, inverted: bool, closing: bool) -> Plan
 fn shut(o: Open) -> Plan
     ensures { result ≡ shut_plan o }
 {
-    let owner = o.owner;
-    let top = o.top;
-    let below = o.below;
     Plan {
-        made: Element::EMPTY,
-        owner: owner,
-        top: top,
-        put: below,
-        slot: less(o.depth),
-        depth: o.depth,
-        len: o.len,
-        count: o.count,
-        join: 0,
         closing: true,
+        ..still(o)
     }
 }
 
@@ -233,29 +151,16 @@ fn shut(o: Open) -> Plan
 fn revert_chain(o: Open) -> Plan
     ensures { result ≡ revert_plan o }
 {
-    let owner = o.owner;
-    let top = o.top;
-    let below = o.below;
-    let opened = top.opened;
     Plan {
-        made: Element::EMPTY,
-        owner: owner.set_inverse(top.first, top.inverted, true),
+        owner: o.owner.set_inverse(o.top.first, o.top.inverted, true),
         top: Frame {
-            opened: opened,
-            block: top.block,
-            head: owner.inverse,
-            first: top.head,
-            last: 0,
-            chain: top.chain,
+            head: o.owner.inverse,
             inverted: true,
+            ..filled(o.top, o.top.head, 0)
         },
-        put: below,
-        slot: less(o.depth),
-        depth: o.depth,
-        len: o.len,
-        count: less(o.count),
-        join: 0,
+        count: o.count.saturating_sub(1),
         closing: true,
+        ..still(o)
     }
 }
 
@@ -263,35 +168,30 @@ fn revert_chain(o: Open) -> Plan
 fn set_inverse(o: Open) -> Plan
     ensures { result ≡ inverse_plan o }
 {
-    let owner = o.owner;
-    let top = o.top;
-    let below = o.below;
     Plan {
-        made: Element::EMPTY,
-        owner: owner.set_inverse(top.first, top.inverted, top.chain),
-        top: below,
-        put: below,
-        slot: less(o.depth),
-        depth: less(o.depth),
-        len: o.len,
-        count: less(o.count),
-        join: top.block,
-        closing: false,
+        owner: o
+            .owner
+            .set_inverse(o.top.first, o.top.inverted, o.top.chain),
+        top: o.below,
+        depth: o.depth.saturating_sub(1),
+        count: o.count.saturating_sub(1),
+        join: o.top.block,
+        ..still(o)
     }
 }
 
 fn close(o: Open) -> Plan
     ensures { result ≡ close_plan o }
 {
-    let top = o.top;
-    if top.inverted {
-        return shut(o);
+    if o.top.inverted {
+        shut(o)
+    } else {
+        set_chain_template(o, false, true)
     }
-    set_chain_template(o, false, true)
 }
 
 fn plan_add(e: Element, added: Added, o: Open) -> Plan
-    requires { (o.depth ≤ 64) × (o.len ≤ 8192) × (o.count ≤ 64) }
+    requires { OpenFits o }
     ensures { result ≡ add_plan e added o }
 {
     match added {
@@ -302,11 +202,11 @@ fn plan_add(e: Element, added: Added, o: Open) -> Plan
 }
 
 fn plan_act(a: Act, o: Open) -> Plan
-    requires { (o.depth ≤ 64) × (o.len ≤ 8192) × (o.count ≤ 64) }
+    requires { OpenFits o }
     ensures { result ≡ act_plan a o }
 {
     match a {
-        Act::Skip => plain(o, Element::EMPTY, o.len, 0),
+        Act::Skip => still(o),
         Act::Add(e, added) => plan_add(e, added, o),
         Act::Else => set_chain_template(o, true, false),
         Act::Close => close(o),
@@ -314,7 +214,7 @@ fn plan_act(a: Act, o: Open) -> Plan
 }
 
 pub(crate) fn plan_of(t: Turn, o: Open) -> Plan
-    requires { (o.depth ≤ 64) × (o.len ≤ 8192) × (o.count ≤ 64) }
+    requires { OpenFits o }
     ensures { result ≡ plan_of t o }
 {
     match t {
@@ -328,35 +228,27 @@ pub(crate) fn plan_of(t: Turn, o: Open) -> Plan
 pub(crate) fn turn_of(closing: bool, head: usize, act: Act) -> Turn
     ensures { result ≡ turn_of closing head act }
 {
-    if closing {
-        let h = chain_head(head);
-        let ChainHead::Node(_) = h else {
-            return Turn::Set;
-        };
-        return Turn::Revert;
+    if !closing {
+        Turn::Act(act)
+    } else if head == 0 {
+        Turn::Set
+    } else {
+        Turn::Revert
     }
-    Turn::Act(act)
 }
 
-// The frame and the last element of its body, with `at` behind them.
-pub(crate) fn join(top: Frame, last: Element, at: usize) -> Joined
-    ensures { result ≡ joined_of top last at }
+// The frame with the element at `at`, if there is one, behind the last one of its body.
+pub(crate) fn join(elements: &mut [Element], top: Frame, at: usize) -> Frame
+    requires { top.last < length elements.old }
+    ensures { JoinedIs elements.old top at elements.new result }
 {
     if at == 0 {
-        return Joined {
-            top: top,
-            last: last,
-        };
-    }
-    if top.last == 0 {
-        return Joined {
-            top: filled(top, at, at),
-            last: last,
-        };
-    }
-    Joined {
-        top: filled(top, top.first, at),
-        last: last.followed_by(at),
+        top
+    } else if top.last == 0 {
+        filled(top, at, at)
+    } else {
+        elements[top.last] = elements[top.last].followed_by(at);
+        filled(top, top.first, at)
     }
 }
 
@@ -373,15 +265,90 @@ pub(crate) fn take_gap(kept: bool, gap: Element, len: usize) -> Gapped
     ensures { result ≡ gapped_of kept gap len }
 {
     if kept {
-        return Gapped {
+        Gapped {
             made: gap,
             len: len + 1,
             join: len,
-        };
+        }
+    } else {
+        Gapped {
+            made: Element::EMPTY,
+            len,
+            join: 0,
+        }
     }
-    Gapped {
-        made: Element::EMPTY,
-        len: len,
-        join: 0,
+}
+
+// Where the walk stands: the body on top, the marks, the place found last; how many bodies are around that
+// body, how many elements there are, and how many blocks with their else-ifs are open; whether a block closes;
+// the number of the next span.
+#[derive(Clone, Copy)]
+pub struct Standing {
+    pub top: Frame,
+    pub marks: Marks,
+    pub here: Here,
+    pub depth: usize,
+    pub len: usize,
+    pub count: usize,
+    pub closing: bool,
+    pub at: usize,
+}
+
+impl Standing {
+    pub const FIRST: Standing = Standing {
+        top: Frame::EMPTY,
+        marks: Marks::FIRST,
+        here: Here {
+            place: Place { line: 1, column: 1 },
+            at: 0,
+        },
+        depth: 0,
+        len: 1,
+        count: 0,
+        closing: false,
+        at: 0,
+    };
+}
+
+// A turn: the gap joins the body on top, the last text is trimmed, then the act. The store and the frames
+// are written at every turn, with what was there where nothing changes.
+pub(crate) fn take_turn(
+    elements: &mut [Element],
+    levels: &mut [Frame],
+    b: Standing,
+    s: Step,
+) -> Standing
+    requires { TurnFits elements.old levels.old b s }
+    ensures { TurnIs elements.old levels.old b s elements.new levels.new result }
+{
+    let g = take_gap(s.gapped, s.gap, b.len);
+    elements[b.len] = g.made;
+    let top = join(elements, b.top, g.join);
+    elements[top.last] = elements[top.last].trim_end(s.back);
+    let owner = ref_chain_head(top.block, top.head);
+    let p = plan_of(
+        turn_of(b.closing, top.head, s.act),
+        Open {
+            top,
+            below: levels[b.depth.saturating_sub(1)],
+            owner: elements[owner],
+            depth: b.depth,
+            len: g.len,
+            count: b.count,
+        },
+    );
+    elements[g.len] = p.made;
+    elements[owner] = p.owner;
+    levels[p.slot] = p.put;
+    let next = join(elements, p.top, p.join);
+    Standing {
+        top: next,
+        marks: s.marks,
+        here: s.here,
+        depth: p.depth,
+        len: p.len,
+        count: p.count,
+        closing: p.closing,
+        at: s.next,
     }
 }

@@ -1,5 +1,6 @@
 // The walk: it holds the store.
-ghost use Rattle.std.specs.Prelude.{◌≡◌};
+ghost use Rattle.std.specs.Prelude.{◌≡◌, ◌*◌, ◌≤◌, ◌<◌};
+ghost use Rattle.json_path.specs.Span.{span_count};
 ghost use Rattle.template.specs.Element.{Good};
 ghost use Rattle.template.specs.Lines.{LinesAre};
 ghost use Rattle.template.specs.Turn.{LookIs};
@@ -8,17 +9,14 @@ ghost use Rattle.template.specs.Finish.{unfinished_at, RestIs, walk_listing, Buf
 use crate::compile::Answer;
 use crate::element::{Back, Element, Front, RawString, TemplateElement};
 use crate::frame::{Frame, Marks};
-use crate::list::{Waiting, deeper, has_else, link_behind, link_inside, write_element, write_end};
 use crate::reason::is_filling;
-use crate::turn::{
-    Gapped, Joined, Open, Plan, Turn, join, less, plan_of, ref_chain_head, take_gap, turn_of,
-};
+use crate::tree::write_tree;
+use crate::turn::{Standing, join, take_gap, take_turn};
 use crate::visit::{Act, Here, Options, Step, View, Visit, visit_span};
 use expression::parameter::AsName;
 use json_path::span::span_count;
-use listing::write::put_bytes;
 use support::bytes::part;
-use support::position::{Place, line_col};
+use support::position::line_col;
 
 // A turn's visit; while a block closes, nothing is visited.
 pub(crate) fn look(
@@ -36,40 +34,31 @@ pub(crate) fn look(
     ensures { LookIs text.now words.now o v at closing result }
 {
     if closing {
-        let m = v.marks;
-        let h = v.here;
-        return Visit::Step(Step {
+        Visit::Step(Step {
             gapped: false,
             gap: Element::EMPTY,
             back: Back::Kept,
             act: Act::Skip,
-            marks: m,
-            here: h,
+            marks: v.marks,
+            here: v.here,
             next: at,
-        });
+        })
+    } else {
+        visit_span(text, starts, ends, words, o, v, at)
     }
-    visit_span(text, starts, ends, words, o, v, at)
 }
 
 // 7 at the end of the list.
 pub(crate) fn unfinished(text: &[u8], m: Marks, depth: usize) -> bool
     ensures { result ≡ unfinished_at text.now m depth }
 {
-    let g = m.stage;
-    if is_filling(g) {
-        if 0 < depth {
-            return true;
-        }
-        return m.end_pos < text.len() && !m.started;
-    }
-    true
+    !is_filling(m.stage) || 0 < depth || m.end_pos < text.len() && !m.started
 }
 
 // The text after the last previous end.
 pub(crate) fn rest_of(text: &[u8], words: &[u32], m: Marks, h: Here) -> Element
     ensures { RestIs text.now words.now m h result }
 {
-    let from = h.place;
     Element::new(
         TemplateElement::RawString(RawString {
             start: m.end_pos,
@@ -78,16 +67,14 @@ pub(crate) fn rest_of(text: &[u8], words: &[u32], m: Marks, h: Here) -> Element
             front: Front::Kept,
             back: Back::Kept,
         }),
-        line_col(from, part(text, h.at, m.end_pos)),
+        line_col(h.place, part(text, h.at, m.end_pos)),
     )
 }
 
-// Each turn: what is visited, the gap, the trim of the last text, the act. The store and the frames are
-// written at every turn, with what was there where nothing changes. At the end of the list the text that is
-// left joins the root's body. Then the tree is listed: from element to element, and back to the block that
-// waits where a body ends. What the output has no room for is only counted. Both loops stand in one
-// function, since the store cannot be lent and is too big to be handed on.
-pub(crate) fn walk(
+// Each turn visits a span, or closes a block. At the end of the list the text that is left joins the root's
+// body, and the tree is listed. `N` is how many elements the store has: to fill a large one takes longer than
+// the work on a small card.
+pub(crate) fn walk<const N: usize>(
     text: &[u8],
     starts: &[bool],
     ends: &[bool],
@@ -97,138 +84,34 @@ pub(crate) fn walk(
 ) -> Answer
     requires good { Good text.now words.now }
     requires lines { LinesAre text.now starts.now ends.now }
+    requires few { 2 * span_count words.now < N }
+    requires size { (1 < N) × (N ≤ 8193) }
     ensures { BufferedIs (walk_listing text.now words.now o) out.old out.new result }
 {
-    let mut elements = [Element::EMPTY; Element::LIMIT];
+    let mut elements = [Element::EMPTY; N];
     let mut levels = [Frame::EMPTY; Frame::LIMIT];
-    let mut top = Frame::EMPTY;
-    let mut marks = Marks::FIRST;
-    let mut here = Here {
-        place: Place { line: 1, column: 1 },
-        at: 0,
-    };
-    let mut depth: usize = 0;
-    let mut len: usize = 1;
-    let mut count: usize = 0;
-    let mut closing = false;
-    let mut at: usize = 0;
+    let mut b = Standing::FIRST;
     loop {
-        let b = top.block;
-        let block = elements[b];
-        let opened = top.opened;
-        let name = block.name();
         let v = View {
-            marks: marks,
-            opened: opened,
-            inverted: top.inverted,
-            name: name,
-            count: count,
-            here: here,
+            marks: b.marks,
+            opened: b.top.opened,
+            inverted: b.top.inverted,
+            name: elements[b.top.block].name(),
+            count: b.count,
+            here: b.here,
         };
-        let seen = look(text, starts, ends, words, o, v, at, closing);
-        match seen {
-            Visit::Refused(r) => {
-                return Answer::Refused(r.number, r.place);
-            }
-            Visit::End => {
-                if unfinished(text, marks, depth) {
-                    return Answer::Refused(7, span_count(words));
-                }
-                break;
-            }
-            Visit::Step(s) => {
-                let ge = s.gap;
-                let g = take_gap(s.gapped, ge, len);
-                let made = g.made;
-                elements[len] = made;
-                len = g.len;
-                let gl = top.last;
-                let gx = elements[gl];
-                let gj = join(top, gx, g.join);
-                let gz = gj.last;
-                elements[gl] = gz;
-                top = gj.top;
-                let back = s.back;
-                let tl = top.last;
-                let tx = elements[tl];
-                elements[tl] = tx.trim_end(back);
-                let w = ref_chain_head(top.block, top.head);
-                let owner = elements[w];
-                let u = less(depth);
-                let below = levels[u];
-                let act = s.act;
-                let t = turn_of(closing, top.head, act);
-                let p = plan_of(
-                    t,
-                    Open {
-                        top: top,
-                        below: below,
-                        owner: owner,
-                        depth: depth,
-                        len: len,
-                        count: count,
-                    },
-                );
-                let pm = p.made;
-                elements[len] = pm;
-                let po = p.owner;
-                elements[w] = po;
-                let slot = p.slot;
-                let pp = p.put;
-                levels[slot] = pp;
-                let pt = p.top;
-                let pl = pt.last;
-                let px = elements[pl];
-                let pj = join(pt, px, p.join);
-                let pz = pj.last;
-                elements[pl] = pz;
-                top = pj.top;
-                depth = p.depth;
-                len = p.len;
-                count = p.count;
-                closing = p.closing;
-                marks = s.marks;
-                here = s.here;
-                at = s.next;
-            }
+        match look(text, starts, ends, words, o, v, b.at, b.closing) {
+            Visit::Refused(r) => return Answer::Refused(r.number, r.place),
+            Visit::End => break,
+            Visit::Step(s) => b = take_turn(&mut elements, &mut levels, b, s),
         }
     }
-    // The text that is left.
-    let rest = rest_of(text, words, marks, here);
-    let rg = take_gap(marks.end_pos < text.len(), rest, len);
-    let rm = rg.made;
-    elements[len] = rm;
-    let rl = top.last;
-    let rx = elements[rl];
-    let rj = join(top, rx, rg.join);
-    let rz = rj.last;
-    elements[rl] = rz;
-    let rt = rj.top;
-    // The listing.
-    let mut waiting = [Waiting::EMPTY; Element::LIMIT];
-    let mut p = put_bytes(out, 0, b"[template\n");
-    let mut link = rt.first;
-    let mut waits: usize = 0;
-    loop {
-        if link > 0 {
-            let e = elements[link];
-            let more = e.has_body();
-            p = write_element(out, p, text, words, e);
-            waiting[waits] = Waiting::new(link, false);
-            waits = deeper(waits, more);
-            link = link_inside(e, more);
-        } else if waits > 0 {
-            waits -= 1;
-            let w = waiting[waits];
-            let b = w.block;
-            let e = elements[b];
-            let more = has_else(e, w);
-            p = write_end(out, p, more);
-            waiting[waits] = Waiting::new(b, true);
-            waits = deeper(waits, more);
-            link = link_behind(e, more);
-        } else {
-            return Answer::Listed(put_bytes(out, p, b"]\n"));
-        }
+    if unfinished(text, b.marks, b.depth) {
+        return Answer::Refused(7, span_count(words));
     }
+    let rest = rest_of(text, words, b.marks, b.here);
+    let g = take_gap(b.marks.end_pos < text.len(), rest, b.len);
+    elements[b.len] = g.made;
+    let top = join(&mut elements, b.top, g.join);
+    Answer::Listed(write_tree(out, text, words, &elements, top.first))
 }

@@ -1,5 +1,4 @@
 -- The cells up to the offset tell of ends, by the laws of LineLaws. Assumes nothing.
-use native.Mathlib.Omega.{arith}
 use mathlib.Core.Path.{◌∙◌}
 use mathlib.Core.Bool.{true}
 use lib.ListN.{length-set}
@@ -24,4 +23,4 @@ shape_of-ends c =
 pub returns : goal.returns
 returns c =
     let a = c.args in
-    laws.ending_ends a.text.now c.loop-i.invariant (omega arith)
+    laws.ending_ends a.text.now c.loop-i.invariant c.loop-i-test.false

@@ -1,5 +1,4 @@
 -- The cells from the offset on tell of starts, by the laws of LineLaws. Assumes nothing.
-use native.Mathlib.Omega.{arith}
 use mathlib.Core.Path.{◌∙◌}
 use mathlib.Core.Bool.{false}
 use lib.ListN.{length, length-set}
@@ -24,4 +23,4 @@ shape_of-starts c =
 pub returns : goal.returns
 returns c =
     let a = c.args in
-    laws.starting_ends a.text.now c.loop-i.invariant (omega arith)
+    laws.starting_ends a.text.now c.loop-i.invariant c.loop-i-test.false

@@ -4,6 +4,3 @@ use Rattle.template.proofs.lines.find_line_starts.Given as goal
 
 abbrev pub invariant-loop-i : goal.invariant-loop-i
 invariant-loop-i l = laws.Starting l.text l.initial.starts l.starts l.i l.line
-
-abbrev pub decreases-loop-i : goal.decreases-loop-i
-decreases-loop-i l = l.i

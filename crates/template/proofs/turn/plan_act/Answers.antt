@@ -4,7 +4,7 @@ use Rattle.template.proofs.turn.plan_act.Goals as goal
 
 pub returns-in-Skip : goal.returns-in-Skip
 unfolding act_plan
-returns-in-Skip c = rw (c.plain.ensures, c.in-Skip.is)
+returns-in-Skip c = rw (c.still.ensures, c.in-Skip.is)
 
 pub returns-in-Add : goal.returns-in-Add
 unfolding act_plan

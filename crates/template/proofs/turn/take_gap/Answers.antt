@@ -6,6 +6,6 @@ pub returns-then-kept : goal.returns-then-kept
 unfolding gapped_of
 returns-then-kept c = rw c.if-kept.true
 
-pub returns : goal.returns
+pub returns-else-kept : goal.returns-else-kept
 unfolding gapped_of
-returns c = rw c.if-kept.false
+returns-else-kept c = rw c.if-kept.false

@@ -1,294 +1,52 @@
--- The first loop keeps what proofs/Loop says, by the stages of a turn; the answer is what proofs/WalkStages says of a visit, or what proofs/Finishing
--- says of the end of the list. The second loop keeps what proofs/Pass says. Assumes nothing.
+-- The loop keeps what proofs/Loop says; the answer is what proofs/WalkStages says of a visit, or what proofs/Finishing says of the end of
+-- the list. Assumes nothing.
 use native.Mathlib.Omega.{arith}
 use mathlib.Core.Path.{refl, ap, sym, ◌∙◌}
-use Rattle.listing.proofs.Writes.{written_length}
+use lib.ListN.{length-set}
 use Rattle.template.specs.Result.{refused}
-use Rattle.template.proofs.Loop.{Gaps, Joins, Trims, Plans}
 use Rattle.template.proofs.Loop as loop
 use Rattle.template.proofs.Finishing.{Rested}
 use Rattle.template.proofs.Finishing as finishing
-use Rattle.template.proofs.Pass as pass
-use Rattle.template.proofs.ElementWrites.{bytes_are}
 use Rattle.template.proofs.WalkEnds as ends
 use Rattle.template.proofs.WalkStages as stages
 use Rattle.template.proofs.walk.walk.Goals as goal
 
 pub loop-r-init : goal.loop-r-init
-loop-r-init c = ends.held_first 8193 (omega (arith, c.requires.good.few)) (omega arith) c.requires.good
+loop-r-init g c = ends.held_first g.row.N c.requires.few c.requires.size.0 c.requires.good
 
 pub offset_bounds-elements-b : goal.offset_bounds-elements-b
-offset_bounds-elements-b c = omega (arith, loop.block_in c.loop-r.invariant)
+offset_bounds-elements-b g c = omega (arith, loop.block_in c.loop-r.invariant)
 
 pub bounds-elements-b : goal.bounds-elements-b
-bounds-elements-b c = loop.block_in c.loop-r.invariant
-
-pub look-seen-requires : goal.look-seen-requires
-look-seen-requires c = c.requires
+bounds-elements-b g c = loop.block_in c.loop-r.invariant
 
 pub returns-in-Refused : goal.returns-in-Refused
-returns-in-Refused c = record { means = (stages.look_refused c.loop-r.invariant c.name-name.ensures c.look-seen.ensures _ c.in-Refused.is, refl) }
+returns-in-Refused g c = record { means = (stages.look_refused c.loop-r.invariant c.name.ensures c.look.ensures _ c.in-Refused.is, refl) }
 
-pub returns-then-unfinished : goal.returns-then-unfinished
-returns-then-unfinished c =
-    record { means = (stages.look_early c.loop-r.invariant c.name-name.ensures c.look-seen.ensures _ c.in-End.is c.unfinished.ensures c.if-unfinished.true ∙ ap (refused 7) (sym c.span_count.ensures), refl) }
-
-pub take_gap-g-requires : goal.take_gap-g-requires
-take_gap-g-requires c = omega (arith, c.loop-r.invariant.within)
-
-pub offset_bounds-elements-len : goal.offset_bounds-elements-len
-offset_bounds-elements-len c = omega (arith, c.loop-r.invariant.within)
-
-pub bounds-elements-len : goal.bounds-elements-len
-bounds-elements-len c = c.loop-r.invariant.within
-
-pub offset_bounds-elements-gl : goal.offset_bounds-elements-gl
-offset_bounds-elements-gl c = omega (arith, loop.last_in c.loop-r.invariant)
-
-pub bounds-elements-gl : goal.bounds-elements-gl
-bounds-elements-gl c = loop.last_in c.loop-r.invariant
-
-pub offset_bounds-elements-gl-in-Step : goal.offset_bounds-elements-gl-in-Step
-offset_bounds-elements-gl-in-Step c = omega (arith, loop.last_in c.loop-r.invariant)
-
-pub bounds-elements-gl-in-Step : goal.bounds-elements-gl-in-Step
-bounds-elements-gl-in-Step c = loop.last_in c.loop-r.invariant
-
-pub offset_bounds-elements-tl : goal.offset_bounds-elements-tl
-offset_bounds-elements-tl c =
-    let gaps : Gaps c.loop-r.invariant c.in-Step.s c.take_gap-g.result = record { goes = stages.look_goes c.loop-r.invariant c.name-name.ensures c.look-seen.ensures _ c.in-Step.is; made = c.take_gap-g.ensures } in
-    let joins : Joins c.loop-r.invariant c.in-Step.s c.take_gap-g.result c.join-gj.result = record { gaps = gaps; joined = c.join-gj.ensures } in
-    omega (arith, loop.joined_last joins)
-
-pub bounds-elements-tl : goal.bounds-elements-tl
-bounds-elements-tl c =
-    let gaps : Gaps c.loop-r.invariant c.in-Step.s c.take_gap-g.result = record { goes = stages.look_goes c.loop-r.invariant c.name-name.ensures c.look-seen.ensures _ c.in-Step.is; made = c.take_gap-g.ensures } in
-    let joins : Joins c.loop-r.invariant c.in-Step.s c.take_gap-g.result c.join-gj.result = record { gaps = gaps; joined = c.join-gj.ensures } in
-    loop.joined_last joins
-
-pub offset_bounds-elements-tl-in-Step : goal.offset_bounds-elements-tl-in-Step
-offset_bounds-elements-tl-in-Step c =
-    let gaps : Gaps c.loop-r.invariant c.in-Step.s c.take_gap-g.result = record { goes = stages.look_goes c.loop-r.invariant c.name-name.ensures c.look-seen.ensures _ c.in-Step.is; made = c.take_gap-g.ensures } in
-    let joins : Joins c.loop-r.invariant c.in-Step.s c.take_gap-g.result c.join-gj.result = record { gaps = gaps; joined = c.join-gj.ensures } in
-    omega (arith, loop.joined_last joins)
-
-pub bounds-elements-tl-in-Step : goal.bounds-elements-tl-in-Step
-bounds-elements-tl-in-Step c =
-    let gaps : Gaps c.loop-r.invariant c.in-Step.s c.take_gap-g.result = record { goes = stages.look_goes c.loop-r.invariant c.name-name.ensures c.look-seen.ensures _ c.in-Step.is; made = c.take_gap-g.ensures } in
-    let joins : Joins c.loop-r.invariant c.in-Step.s c.take_gap-g.result c.join-gj.result = record { gaps = gaps; joined = c.join-gj.ensures } in
-    loop.joined_last joins
-
-pub offset_bounds-elements-w : goal.offset_bounds-elements-w
-offset_bounds-elements-w c =
-    let gaps : Gaps c.loop-r.invariant c.in-Step.s c.take_gap-g.result = record { goes = stages.look_goes c.loop-r.invariant c.name-name.ensures c.look-seen.ensures _ c.in-Step.is; made = c.take_gap-g.ensures } in
-    let joins : Joins c.loop-r.invariant c.in-Step.s c.take_gap-g.result c.join-gj.result = record { gaps = gaps; joined = c.join-gj.ensures } in
-    let trims : Trims c.loop-r.invariant c.in-Step.s c.take_gap-g.result c.join-gj.result c.trim_end.result = record { joins = joins; trims = c.trim_end.ensures } in
-    omega (arith, loop.owner_near trims c.ref_chain_head-w.ensures)
-
-pub bounds-elements-w : goal.bounds-elements-w
-bounds-elements-w c =
-    let gaps : Gaps c.loop-r.invariant c.in-Step.s c.take_gap-g.result = record { goes = stages.look_goes c.loop-r.invariant c.name-name.ensures c.look-seen.ensures _ c.in-Step.is; made = c.take_gap-g.ensures } in
-    let joins : Joins c.loop-r.invariant c.in-Step.s c.take_gap-g.result c.join-gj.result = record { gaps = gaps; joined = c.join-gj.ensures } in
-    let trims : Trims c.loop-r.invariant c.in-Step.s c.take_gap-g.result c.join-gj.result c.trim_end.result = record { joins = joins; trims = c.trim_end.ensures } in
-    loop.owner_near trims c.ref_chain_head-w.ensures
-
-pub offset_bounds-levels-u : goal.offset_bounds-levels-u
-offset_bounds-levels-u c =
-    let gaps : Gaps c.loop-r.invariant c.in-Step.s c.take_gap-g.result = record { goes = stages.look_goes c.loop-r.invariant c.name-name.ensures c.look-seen.ensures _ c.in-Step.is; made = c.take_gap-g.ensures } in
-    let joins : Joins c.loop-r.invariant c.in-Step.s c.take_gap-g.result c.join-gj.result = record { gaps = gaps; joined = c.join-gj.ensures } in
-    let trims : Trims c.loop-r.invariant c.in-Step.s c.take_gap-g.result c.join-gj.result c.trim_end.result = record { joins = joins; trims = c.trim_end.ensures } in
-    omega (arith, (loop.caps trims).0, c.less-u.ensures)
-
-pub bounds-levels-u : goal.bounds-levels-u
-bounds-levels-u c =
-    let gaps : Gaps c.loop-r.invariant c.in-Step.s c.take_gap-g.result = record { goes = stages.look_goes c.loop-r.invariant c.name-name.ensures c.look-seen.ensures _ c.in-Step.is; made = c.take_gap-g.ensures } in
-    let joins : Joins c.loop-r.invariant c.in-Step.s c.take_gap-g.result c.join-gj.result = record { gaps = gaps; joined = c.join-gj.ensures } in
-    let trims : Trims c.loop-r.invariant c.in-Step.s c.take_gap-g.result c.join-gj.result c.trim_end.result = record { joins = joins; trims = c.trim_end.ensures } in
-    omega (arith, (loop.caps trims).0, c.less-u.ensures)
-
-pub plan_of-p-requires : goal.plan_of-p-requires
-plan_of-p-requires c =
-    let gaps : Gaps c.loop-r.invariant c.in-Step.s c.take_gap-g.result = record { goes = stages.look_goes c.loop-r.invariant c.name-name.ensures c.look-seen.ensures _ c.in-Step.is; made = c.take_gap-g.ensures } in
-    let joins : Joins c.loop-r.invariant c.in-Step.s c.take_gap-g.result c.join-gj.result = record { gaps = gaps; joined = c.join-gj.ensures } in
-    let trims : Trims c.loop-r.invariant c.in-Step.s c.take_gap-g.result c.join-gj.result c.trim_end.result = record { joins = joins; trims = c.trim_end.ensures } in
-    let k = loop.caps trims in (k.0, omega (arith, loop.room gaps), k.1)
-
-pub offset_bounds-elements-len-in-Step : goal.offset_bounds-elements-len-in-Step
-offset_bounds-elements-len-in-Step c =
-    let gaps : Gaps c.loop-r.invariant c.in-Step.s c.take_gap-g.result = record { goes = stages.look_goes c.loop-r.invariant c.name-name.ensures c.look-seen.ensures _ c.in-Step.is; made = c.take_gap-g.ensures } in
-    omega (arith, loop.room gaps)
-
-pub bounds-elements-len-in-Step : goal.bounds-elements-len-in-Step
-bounds-elements-len-in-Step c =
-    let gaps : Gaps c.loop-r.invariant c.in-Step.s c.take_gap-g.result = record { goes = stages.look_goes c.loop-r.invariant c.name-name.ensures c.look-seen.ensures _ c.in-Step.is; made = c.take_gap-g.ensures } in
-    loop.room gaps
-
-pub offset_bounds-elements-w-in-Step : goal.offset_bounds-elements-w-in-Step
-offset_bounds-elements-w-in-Step c =
-    let gaps : Gaps c.loop-r.invariant c.in-Step.s c.take_gap-g.result = record { goes = stages.look_goes c.loop-r.invariant c.name-name.ensures c.look-seen.ensures _ c.in-Step.is; made = c.take_gap-g.ensures } in
-    let joins : Joins c.loop-r.invariant c.in-Step.s c.take_gap-g.result c.join-gj.result = record { gaps = gaps; joined = c.join-gj.ensures } in
-    let trims : Trims c.loop-r.invariant c.in-Step.s c.take_gap-g.result c.join-gj.result c.trim_end.result = record { joins = joins; trims = c.trim_end.ensures } in
-    omega (arith, loop.owner_near trims c.ref_chain_head-w.ensures)
-
-pub bounds-elements-w-in-Step : goal.bounds-elements-w-in-Step
-bounds-elements-w-in-Step c =
-    let gaps : Gaps c.loop-r.invariant c.in-Step.s c.take_gap-g.result = record { goes = stages.look_goes c.loop-r.invariant c.name-name.ensures c.look-seen.ensures _ c.in-Step.is; made = c.take_gap-g.ensures } in
-    let joins : Joins c.loop-r.invariant c.in-Step.s c.take_gap-g.result c.join-gj.result = record { gaps = gaps; joined = c.join-gj.ensures } in
-    let trims : Trims c.loop-r.invariant c.in-Step.s c.take_gap-g.result c.join-gj.result c.trim_end.result = record { joins = joins; trims = c.trim_end.ensures } in
-    loop.owner_near trims c.ref_chain_head-w.ensures
-
-pub offset_bounds-levels-slot : goal.offset_bounds-levels-slot
-offset_bounds-levels-slot c =
-    let gaps : Gaps c.loop-r.invariant c.in-Step.s c.take_gap-g.result = record { goes = stages.look_goes c.loop-r.invariant c.name-name.ensures c.look-seen.ensures _ c.in-Step.is; made = c.take_gap-g.ensures } in
-    let joins : Joins c.loop-r.invariant c.in-Step.s c.take_gap-g.result c.join-gj.result = record { gaps = gaps; joined = c.join-gj.ensures } in
-    let trims : Trims c.loop-r.invariant c.in-Step.s c.take_gap-g.result c.join-gj.result c.trim_end.result = record { joins = joins; trims = c.trim_end.ensures } in
-    let plans : Plans c.loop-r.invariant c.in-Step.s c.take_gap-g.result c.join-gj.result c.trim_end.result c.ref_chain_head-w.result c.less-u.result c.turn_of-t.result c.plan_of-p.result = record { ready = trims; owner = c.ref_chain_head-w.ensures; below = c.less-u.ensures; turns = c.turn_of-t.ensures; plan = c.plan_of-p.ensures } in
-    omega (arith, loop.slot_near plans)
-
-pub bounds-levels-slot : goal.bounds-levels-slot
-bounds-levels-slot c =
-    let gaps : Gaps c.loop-r.invariant c.in-Step.s c.take_gap-g.result = record { goes = stages.look_goes c.loop-r.invariant c.name-name.ensures c.look-seen.ensures _ c.in-Step.is; made = c.take_gap-g.ensures } in
-    let joins : Joins c.loop-r.invariant c.in-Step.s c.take_gap-g.result c.join-gj.result = record { gaps = gaps; joined = c.join-gj.ensures } in
-    let trims : Trims c.loop-r.invariant c.in-Step.s c.take_gap-g.result c.join-gj.result c.trim_end.result = record { joins = joins; trims = c.trim_end.ensures } in
-    let plans : Plans c.loop-r.invariant c.in-Step.s c.take_gap-g.result c.join-gj.result c.trim_end.result c.ref_chain_head-w.result c.less-u.result c.turn_of-t.result c.plan_of-p.result = record { ready = trims; owner = c.ref_chain_head-w.ensures; below = c.less-u.ensures; turns = c.turn_of-t.ensures; plan = c.plan_of-p.ensures } in
-    loop.slot_near plans
-
-pub offset_bounds-elements-pl : goal.offset_bounds-elements-pl
-offset_bounds-elements-pl c =
-    let gaps : Gaps c.loop-r.invariant c.in-Step.s c.take_gap-g.result = record { goes = stages.look_goes c.loop-r.invariant c.name-name.ensures c.look-seen.ensures _ c.in-Step.is; made = c.take_gap-g.ensures } in
-    let joins : Joins c.loop-r.invariant c.in-Step.s c.take_gap-g.result c.join-gj.result = record { gaps = gaps; joined = c.join-gj.ensures } in
-    let trims : Trims c.loop-r.invariant c.in-Step.s c.take_gap-g.result c.join-gj.result c.trim_end.result = record { joins = joins; trims = c.trim_end.ensures } in
-    let plans : Plans c.loop-r.invariant c.in-Step.s c.take_gap-g.result c.join-gj.result c.trim_end.result c.ref_chain_head-w.result c.less-u.result c.turn_of-t.result c.plan_of-p.result = record { ready = trims; owner = c.ref_chain_head-w.ensures; below = c.less-u.ensures; turns = c.turn_of-t.ensures; plan = c.plan_of-p.ensures } in
-    omega (arith, loop.planned_last plans)
-
-pub bounds-elements-pl : goal.bounds-elements-pl
-bounds-elements-pl c =
-    let gaps : Gaps c.loop-r.invariant c.in-Step.s c.take_gap-g.result = record { goes = stages.look_goes c.loop-r.invariant c.name-name.ensures c.look-seen.ensures _ c.in-Step.is; made = c.take_gap-g.ensures } in
-    let joins : Joins c.loop-r.invariant c.in-Step.s c.take_gap-g.result c.join-gj.result = record { gaps = gaps; joined = c.join-gj.ensures } in
-    let trims : Trims c.loop-r.invariant c.in-Step.s c.take_gap-g.result c.join-gj.result c.trim_end.result = record { joins = joins; trims = c.trim_end.ensures } in
-    let plans : Plans c.loop-r.invariant c.in-Step.s c.take_gap-g.result c.join-gj.result c.trim_end.result c.ref_chain_head-w.result c.less-u.result c.turn_of-t.result c.plan_of-p.result = record { ready = trims; owner = c.ref_chain_head-w.ensures; below = c.less-u.ensures; turns = c.turn_of-t.ensures; plan = c.plan_of-p.ensures } in
-    loop.planned_last plans
-
-pub offset_bounds-elements-pl-in-Step : goal.offset_bounds-elements-pl-in-Step
-offset_bounds-elements-pl-in-Step c =
-    let gaps : Gaps c.loop-r.invariant c.in-Step.s c.take_gap-g.result = record { goes = stages.look_goes c.loop-r.invariant c.name-name.ensures c.look-seen.ensures _ c.in-Step.is; made = c.take_gap-g.ensures } in
-    let joins : Joins c.loop-r.invariant c.in-Step.s c.take_gap-g.result c.join-gj.result = record { gaps = gaps; joined = c.join-gj.ensures } in
-    let trims : Trims c.loop-r.invariant c.in-Step.s c.take_gap-g.result c.join-gj.result c.trim_end.result = record { joins = joins; trims = c.trim_end.ensures } in
-    let plans : Plans c.loop-r.invariant c.in-Step.s c.take_gap-g.result c.join-gj.result c.trim_end.result c.ref_chain_head-w.result c.less-u.result c.turn_of-t.result c.plan_of-p.result = record { ready = trims; owner = c.ref_chain_head-w.ensures; below = c.less-u.ensures; turns = c.turn_of-t.ensures; plan = c.plan_of-p.ensures } in
-    omega (arith, loop.planned_last plans)
-
-pub bounds-elements-pl-in-Step : goal.bounds-elements-pl-in-Step
-bounds-elements-pl-in-Step c =
-    let gaps : Gaps c.loop-r.invariant c.in-Step.s c.take_gap-g.result = record { goes = stages.look_goes c.loop-r.invariant c.name-name.ensures c.look-seen.ensures _ c.in-Step.is; made = c.take_gap-g.ensures } in
-    let joins : Joins c.loop-r.invariant c.in-Step.s c.take_gap-g.result c.join-gj.result = record { gaps = gaps; joined = c.join-gj.ensures } in
-    let trims : Trims c.loop-r.invariant c.in-Step.s c.take_gap-g.result c.join-gj.result c.trim_end.result = record { joins = joins; trims = c.trim_end.ensures } in
-    let plans : Plans c.loop-r.invariant c.in-Step.s c.take_gap-g.result c.join-gj.result c.trim_end.result c.ref_chain_head-w.result c.less-u.result c.turn_of-t.result c.plan_of-p.result = record { ready = trims; owner = c.ref_chain_head-w.ensures; below = c.less-u.ensures; turns = c.turn_of-t.ensures; plan = c.plan_of-p.ensures } in
-    loop.planned_last plans
+pub take_turn-b-requires : goal.take_turn-b-requires
+take_turn-b-requires g c = loop.turn_fits c.loop-r.invariant (stages.look_goes c.loop-r.invariant c.name.ensures c.look.ensures _ c.in-Step.is) c.requires.size.1
 
 pub loop-r-smaller : goal.loop-r-smaller
-loop-r-smaller c =
-    let gaps : Gaps c.loop-r.invariant c.in-Step.s c.take_gap-g.result = record { goes = stages.look_goes c.loop-r.invariant c.name-name.ensures c.look-seen.ensures _ c.in-Step.is; made = c.take_gap-g.ensures } in
-    let joins : Joins c.loop-r.invariant c.in-Step.s c.take_gap-g.result c.join-gj.result = record { gaps = gaps; joined = c.join-gj.ensures } in
-    let trims : Trims c.loop-r.invariant c.in-Step.s c.take_gap-g.result c.join-gj.result c.trim_end.result = record { joins = joins; trims = c.trim_end.ensures } in
-    let plans : Plans c.loop-r.invariant c.in-Step.s c.take_gap-g.result c.join-gj.result c.trim_end.result c.ref_chain_head-w.result c.less-u.result c.turn_of-t.result c.plan_of-p.result = record { ready = trims; owner = c.ref_chain_head-w.ensures; below = c.less-u.ensures; turns = c.turn_of-t.ensures; plan = c.plan_of-p.ensures } in
-    loop.less plans
+loop-r-smaller g c = loop.turn_less c.loop-r.invariant (stages.look_goes c.loop-r.invariant c.name.ensures c.look.ensures _ c.in-Step.is) c.take_turn-b.ensures
 
 pub loop-r-preserved : goal.loop-r-preserved
-loop-r-preserved c =
-    let gaps : Gaps c.loop-r.invariant c.in-Step.s c.take_gap-g.result = record { goes = stages.look_goes c.loop-r.invariant c.name-name.ensures c.look-seen.ensures _ c.in-Step.is; made = c.take_gap-g.ensures } in
-    let joins : Joins c.loop-r.invariant c.in-Step.s c.take_gap-g.result c.join-gj.result = record { gaps = gaps; joined = c.join-gj.ensures } in
-    let trims : Trims c.loop-r.invariant c.in-Step.s c.take_gap-g.result c.join-gj.result c.trim_end.result = record { joins = joins; trims = c.trim_end.ensures } in
-    let plans : Plans c.loop-r.invariant c.in-Step.s c.take_gap-g.result c.join-gj.result c.trim_end.result c.ref_chain_head-w.result c.less-u.result c.turn_of-t.result c.plan_of-p.result = record { ready = trims; owner = c.ref_chain_head-w.ensures; below = c.less-u.ensures; turns = c.turn_of-t.ensures; plan = c.plan_of-p.ensures } in
-    loop.next_held plans c.join-pj.ensures
+loop-r-preserved g c = loop.turn_held c.loop-r.invariant (stages.look_goes c.loop-r.invariant c.name.ensures c.look.ensures _ c.in-Step.is) c.take_turn-b.ensures
 
-pub take_gap-rg-requires : goal.take_gap-rg-requires
-take_gap-rg-requires c = omega (arith, c.loop-r.invariant.within)
+pub returns-then-unfinished : goal.returns-then-unfinished
+returns-then-unfinished g c =
+    record { means = (stages.look_early c.loop-r.invariant c.name.ensures c.look.ensures _ c.in-End.is c.unfinished.ensures c.if-unfinished.true ∙ ap (refused 7) (sym c.span_count.ensures), refl) }
 
-pub offset_bounds-elements-len-2 : goal.offset_bounds-elements-len-2
-offset_bounds-elements-len-2 c = omega (arith, c.loop-r.invariant.within)
+pub join-top-requires : goal.join-top-requires
+join-top-requires g c = omega (arith, length-set c.loop-r.elements c.loop-r.b.len c.take_gap-g.result.made, c.loop-r.invariant.kept.long, loop.last_in c.loop-r.invariant)
 
-pub bounds-elements-len-2 : goal.bounds-elements-len-2
-bounds-elements-len-2 c = c.loop-r.invariant.within
+pub write_tree-requires : goal.write_tree-requires
+write_tree-requires g c =
+    let rested : Rested c.args.text.now c.args.words.now c.args.o c.loop-r.elements c.loop-r.b.top c.loop-r.b.len c.loop-r.b.marks c.loop-r.b.here c.rest_of-rest.result c.take_gap-g.result =
+    record { good = c.requires.good; end = stages.look_ended c.loop-r.invariant c.name.ensures c.look.ensures c.requires.good c.in-End.is c.unfinished.ensures c.if-unfinished.false; is = c.rest_of-rest.ensures; gap = c.take_gap-g.ensures } in
+    (omega (arith, c.requires.size.1), (c.requires.good, (c.requires.size.1, finishing.ended_stored rested c.join-top.ensures)))
 
-pub offset_bounds-elements-rl : goal.offset_bounds-elements-rl
-offset_bounds-elements-rl c = omega (arith, loop.last_in c.loop-r.invariant)
-
-pub bounds-elements-rl : goal.bounds-elements-rl
-bounds-elements-rl c = loop.last_in c.loop-r.invariant
-
-pub offset_bounds-elements-rl-2 : goal.offset_bounds-elements-rl-2
-offset_bounds-elements-rl-2 c = omega (arith, loop.last_in c.loop-r.invariant)
-
-pub bounds-elements-rl-2 : goal.bounds-elements-rl-2
-bounds-elements-rl-2 c = loop.last_in c.loop-r.invariant
-
-pub loop-link-init : goal.loop-link-init
-loop-link-init c =
-    let rested : Rested c.args.text.now c.args.words.now c.args.o c.loop-r.elements c.loop-r.top c.loop-r.len c.loop-r.marks c.loop-r.here c.rest_of-rest.result c.take_gap-rg.result c.join-rj.result = record { good = c.requires.good; end = stages.look_ended c.loop-r.invariant c.name-name.ensures c.look-seen.ensures c.requires.good c.in-End.is c.unfinished.ensures c.if-unfinished.false; is = c.rest_of-rest.ensures; gap = c.take_gap-rg.ensures; joined = c.join-rj.ensures } in
-    let line = c.put_bytes-p.ensures in
-    let end = rested in
-    pass.starts _ _ _ _ 8193 (finishing.ended_long end ∙ c.loop-r.invariant.kept.long) (omega arith) (record { body = _; holds = finishing.ended_holds end })
-    (omega (arith, c.well_formed.1.1.1.1.1.0, written_length line)) (omega (arith, line.next))
-
-pub offset_bounds-elements-link : goal.offset_bounds-elements-link
-offset_bounds-elements-link c = omega (arith, pass.element_in c.loop-link.invariant c.if-link-gt0.true)
-
-pub bounds-elements-link : goal.bounds-elements-link
-bounds-elements-link c = pass.element_in c.loop-link.invariant c.if-link-gt0.true
-
-pub write_element-p-requires : goal.write_element-p-requires
-write_element-p-requires c = (c.requires.good, pass.element_good c.loop-link.invariant c.if-link-gt0.true)
-
-pub offset_bounds-waiting-waits : goal.offset_bounds-waiting-waits
-offset_bounds-waiting-waits c = omega (arith, pass.depth_in c.loop-link.invariant c.if-link-gt0.true)
-
-pub bounds-waiting-waits : goal.bounds-waiting-waits
-bounds-waiting-waits c = pass.depth_in c.loop-link.invariant c.if-link-gt0.true
-
-pub deeper-waits-requires : goal.deeper-waits-requires
-deeper-waits-requires c = omega (arith, pass.depth_in c.loop-link.invariant c.if-link-gt0.true)
-
-pub loop-link-smaller-then-link-gt0 : goal.loop-link-smaller-then-link-gt0
-loop-link-smaller-then-link-gt0 c =
-    (pass.element_turned c.loop-link.invariant c.if-link-gt0.true c.has_body-more.ensures c.new.ensures c.link_inside-link.ensures c.deeper-waits.ensures c.write_element-p.ensures.1 c.write_element-p.ensures.0).less
-
-pub loop-link-preserved-then-link-gt0 : goal.loop-link-preserved-then-link-gt0
-loop-link-preserved-then-link-gt0 c =
-    (pass.element_turned c.loop-link.invariant c.if-link-gt0.true c.has_body-more.ensures c.new.ensures c.link_inside-link.ensures c.deeper-waits.ensures c.write_element-p.ensures.1 c.write_element-p.ensures.0).pass
-
-pub offset_bounds-waiting-waits-then-waits-gt0 : goal.offset_bounds-waiting-waits-then-waits-gt0
-offset_bounds-waiting-waits-then-waits-gt0 c = omega (arith, pass.entry_in c.loop-link.invariant c.if-link-gt0.false c.if-waits-gt0.true)
-
-pub bounds-waiting-waits-then-waits-gt0 : goal.bounds-waiting-waits-then-waits-gt0
-bounds-waiting-waits-then-waits-gt0 c = pass.entry_in c.loop-link.invariant c.if-link-gt0.false c.if-waits-gt0.true
-
-pub offset_bounds-elements-b-then-waits-gt0 : goal.offset_bounds-elements-b-then-waits-gt0
-offset_bounds-elements-b-then-waits-gt0 c = omega (arith, pass.block_in c.loop-link.invariant c.if-link-gt0.false c.if-waits-gt0.true)
-
-pub bounds-elements-b-then-waits-gt0 : goal.bounds-elements-b-then-waits-gt0
-bounds-elements-b-then-waits-gt0 c = pass.block_in c.loop-link.invariant c.if-link-gt0.false c.if-waits-gt0.true
-
-pub offset_bounds-waiting-waits-then-waits-gt0-2 : goal.offset_bounds-waiting-waits-then-waits-gt0-2
-offset_bounds-waiting-waits-then-waits-gt0-2 c = omega (arith, pass.entry_in c.loop-link.invariant c.if-link-gt0.false c.if-waits-gt0.true)
-
-pub bounds-waiting-waits-then-waits-gt0-2 : goal.bounds-waiting-waits-then-waits-gt0-2
-bounds-waiting-waits-then-waits-gt0-2 c = pass.entry_in c.loop-link.invariant c.if-link-gt0.false c.if-waits-gt0.true
-
-pub deeper-waits-requires-then-waits-gt0 : goal.deeper-waits-requires-then-waits-gt0
-deeper-waits-requires-then-waits-gt0 c = omega (arith, pass.entry_in c.loop-link.invariant c.if-link-gt0.false c.if-waits-gt0.true)
-
-pub loop-link-smaller : goal.loop-link-smaller
-loop-link-smaller c =
-    (pass.back_turned c.loop-link.invariant c.if-link-gt0.false c.if-waits-gt0.true c.has_else-more.ensures c.new-then-waits-gt0.ensures c.link_behind-link.ensures c.deeper-waits-then-waits-gt0.ensures c.write_end-p.ensures).less
-
-pub loop-link-preserved : goal.loop-link-preserved
-loop-link-preserved c =
-    (pass.back_turned c.loop-link.invariant c.if-link-gt0.false c.if-waits-gt0.true c.has_else-more.ensures c.new-then-waits-gt0.ensures c.link_behind-link.ensures c.deeper-waits-then-waits-gt0.ensures c.write_end-p.ensures).pass
-
-pub shape_of-out-else-waits-gt0 : goal.shape_of-out-else-waits-gt0
-shape_of-out-else-waits-gt0 c = pass.same_length c.loop-link.invariant (bytes_are refl c.put_bytes-p.ensures) c.if-link-gt0.false c.if-waits-gt0.false refl c.put_bytes.ensures
-
-pub returns-else-waits-gt0 : goal.returns-else-waits-gt0
-returns-else-waits-gt0 c =
-    let rested : Rested c.args.text.now c.args.words.now c.args.o c.loop-r.elements c.loop-r.top c.loop-r.len c.loop-r.marks c.loop-r.here c.rest_of-rest.result c.take_gap-rg.result c.join-rj.result = record { good = c.requires.good; end = stages.look_ended c.loop-r.invariant c.name-name.ensures c.look-seen.ensures c.requires.good c.in-End.is c.unfinished.ensures c.if-unfinished.false; is = c.rest_of-rest.ensures; gap = c.take_gap-rg.ensures; joined = c.join-rj.ensures } in
-    finishing.ended_answer rested (pass.below c.loop-link.invariant (bytes_are refl c.put_bytes-p.ensures) c.if-link-gt0.false c.if-waits-gt0.false refl c.put_bytes.ensures) (pass.lists c.loop-link.invariant (bytes_are refl c.put_bytes-p.ensures) c.if-link-gt0.false c.if-waits-gt0.false refl c.put_bytes.ensures)
+pub returns : goal.returns
+returns g c =
+    let rested : Rested c.args.text.now c.args.words.now c.args.o c.loop-r.elements c.loop-r.b.top c.loop-r.b.len c.loop-r.b.marks c.loop-r.b.here c.rest_of-rest.result c.take_gap-g.result =
+    record { good = c.requires.good; end = stages.look_ended c.loop-r.invariant c.name.ensures c.look.ensures c.requires.good c.in-End.is c.unfinished.ensures c.if-unfinished.false; is = c.rest_of-rest.ensures; gap = c.take_gap-g.ensures } in
+    finishing.ended_answer rested c.join-top.ensures c.write_tree.ensures

@@ -1,5 +1,0 @@
--- By the contracts of what it calls. Assumes nothing.
-use Rattle.template.proofs.turn.set_inverse.Goals as goal
-
-pub returns : goal.returns
-returns c = rw (c.less.ensures, c.less-2.ensures, c.less-3.ensures, c.set_inverse.ensures)
