@@ -7,7 +7,7 @@ ghost use Rattle.std.specs.Prelude.{◌≤◌, length, IfOk};
 use card::read::{Card, CardRead, read_card};
 use std::io::{self, Read};
 use support::bytes::part;
-use template::compile::{Answer, compile2};
+use template::compile::compile2;
 
 fn show(rt: &impl Print, bytes: &[u8]) -> io::Result<()> {
     rt.write_all(bytes)
@@ -28,10 +28,9 @@ fn show_refusal(rt: &impl Print, number: usize, place: usize) -> io::Result<()> 
 // `compile2` of a card's parts, with 65,536 bytes lent.
 fn show_answer(rt: &impl Print, text: &[u8], words: &[u32], options: u32) -> io::Result<()> {
     let mut out = [0u8; 65536];
-    let a = compile2(text, words, options, &mut out);
-    match a {
-        Answer::Listed(n) => show(rt, part(&out, 0, n)),
-        Answer::Refused(number, place) => show_refusal(rt, number as usize, place),
+    match compile2(text, words, options, &mut out) {
+        Ok(n) => show(rt, part(&out, 0, n)),
+        Err(r) => show_refusal(rt, u32::from(r.reason) as usize, r.place),
     }
 }
 

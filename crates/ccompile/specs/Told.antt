@@ -1,9 +1,10 @@
 -- What C is told: an answer as two numbers, and what the output is after the call.
-use Rattle.std.specs.Prelude.{ℕ, ◌≡◌, ◌++◌, length, drop}
+use Rattle.std.specs.Prelude.{ℕ, ◌≡◌, ◌++◌, Ok, Err, length, drop}
+use Rattle.std.specs.declared.result.Result as code
 use Rattle.support.specs.Bytes.{Bytes}
 use Rattle.template.specs.Result.{Result, accepted, refused}
-use Rattle.template.specs.declared.compile.Answer.{Answer}
-use Rattle.template.specs.declared.compile.Answer.TheVariants.{Listed, Refused}
+use Rattle.template.specs.Numbers.{reason_number}
+use Rattle.template.specs.declared.refusal.Refusal.{Refusal}
 use Rattle.ccompile.specs.declared.Told.{Told}
 
 -- 0 for a listing, else the number from 1 to 14
@@ -28,6 +29,6 @@ pub record ToldIs (x : Result Bytes) (l m : Bytes) (r : Told) : Type 0 where
   pub output : m ≡ output_of x l
 
 -- an answer of `compile2` as two numbers
-abbrev pub told_of : Answer → Told
-told_of (Listed n) = record { number = 0; value = n }
-told_of (Refused n p) = record { number = n; value = p }
+abbrev pub told_of : code.Result ℕ Refusal → Told
+told_of (Ok n) = record { number = 0; value = n }
+told_of (Err f) = record { number = reason_number f.reason; value = f.place }

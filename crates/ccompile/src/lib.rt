@@ -6,7 +6,8 @@ ghost use Rattle.std.specs.Prelude.{◌≡◌, length};
 ghost use Rattle.template.specs.Compile.{answer};
 ghost use Rattle.ccompile.specs.Told.{ToldIs, told_of};
 
-use template::compile::{Answer, compile2};
+use template::compile::compile2;
+use template::refusal::Refusal;
 
 // The number 0 and the listing's length, or a number from 1 to 14 and a place.
 #[repr(C)]
@@ -16,18 +17,20 @@ pub struct Told {
     pub value: usize,
 }
 
-fn told_of(a: Answer) -> Told
-    ensures { result ≡ told_of a }
-{
-    match a {
-        Answer::Listed(n) => Told {
-            number: 0,
-            value: n,
-        },
-        Answer::Refused(n, p) => Told {
-            number: n,
-            value: p,
-        },
+impl From<Result<usize, Refusal>> for Told {
+    ghost from_gives = { λ a t. t ≡ told_of a };
+
+    fn from(a: Result<usize, Refusal>) -> Told {
+        match a {
+            Ok(n) => Told {
+                number: 0,
+                value: n,
+            },
+            Err(r) => Told {
+                number: u32::from(r.reason),
+                value: r.place,
+            },
+        }
     }
 }
 
@@ -42,5 +45,5 @@ pub extern "C" fn havzeltis_compile2(
 ) -> Told
     ensures { ToldIs (answer text.now spans.now options (length out.old)) out.old out.new result }
 {
-    told_of(compile2(text, spans, options, out))
+    Told::from(compile2(text, spans, options, out))
 }

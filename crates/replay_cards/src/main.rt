@@ -12,7 +12,8 @@ use card::read::{Card, CardRead, read_card};
 use card::stored::line_at;
 use std::io::{self, Read};
 use support::bytes::{part, same_bytes};
-use template::compile::{Answer, compile2};
+use template::compile::compile2;
+use template::refusal::{Reason, Refusal};
 
 // The byte that stands where nothing is written.
 const CANARY: u8 = 0xA5;
@@ -50,7 +51,13 @@ fn untouched(bytes: &[u8]) -> bool {
 }
 
 // The answer over the first `room` bytes.
-fn answer_in(text: &[u8], words: &[u32], options: u32, out: &mut [u8], room: usize) -> Answer
+fn answer_in(
+    text: &[u8],
+    words: &[u32],
+    options: u32,
+    out: &mut [u8],
+    room: usize,
+) -> Result<usize, Refusal>
     requires { room ≤ length out.old }
 {
     compile2(text, words, options, &mut out[..room])
@@ -61,16 +68,18 @@ fn good_room(text: &[u8], words: &[u32], options: u32, listing: &[u8], room: usi
     requires { room ≤ 264 }
 {
     let mut out = [CANARY; SHORT + 8];
-    let a = answer_in(text, words, options, &mut out, room);
-    match a {
-        Answer::Listed(n) => {
+    match answer_in(text, words, options, &mut out, room) {
+        Ok(n) => {
             n == listing.len()
                 && n <= room
                 && same_bytes(part(&out, 0, n), listing)
                 && untouched(part(&out, n, out.len()))
         }
-        Answer::Refused(number, place) => {
-            number == 14 && place == listing.len() && room < place && untouched(&out)
+        Err(r) => {
+            r.reason == Reason::ListingTooLong
+                && r.place == listing.len()
+                && room < r.place
+                && untouched(&out)
         }
     }
 }
@@ -121,30 +130,28 @@ fn show_rooms(
 // The answer with room for four times as much.
 fn show_longer(rt: &impl Print, text: &[u8], words: &[u32], options: u32) -> io::Result<()> {
     let mut out = [CANARY; 262144];
-    let a = compile2(text, words, options, &mut out);
-    match a {
-        Answer::Listed(n) => {
+    match compile2(text, words, options, &mut out) {
+        Ok(n) => {
             show_listing(rt, part(&out, 0, n))?;
             if !untouched(part(&out, n, out.len())) {
                 show(rt, b"and more was written\n")?;
             }
             Ok(())
         }
-        Answer::Refused(number, place) => show_refusal(rt, number as usize, place),
+        Err(r) => show_refusal(rt, u32::from(r.reason) as usize, r.place),
     }
 }
 
 fn show_answer(rt: &impl Print, text: &[u8], words: &[u32], options: u32) -> io::Result<()> {
     let mut out = [0u8; 65536];
-    let a = compile2(text, words, options, &mut out);
-    match a {
-        Answer::Listed(n) => {
+    match compile2(text, words, options, &mut out) {
+        Ok(n) => {
             show_listing(rt, part(&out, 0, n))?;
             show_rooms(rt, text, words, options, part(&out, 0, n))
         }
-        Answer::Refused(number, place) => {
-            show_refusal(rt, number as usize, place)?;
-            if number == 14 {
+        Err(r) => {
+            show_refusal(rt, u32::from(r.reason) as usize, r.place)?;
+            if r.reason == Reason::ListingTooLong {
                 show_longer(rt, text, words, options)?;
             }
             Ok(())

@@ -3,11 +3,13 @@
 use Prim.Native.Nat.{ℕ, ◌≤◌, ◌<◌}
 use native.Mathlib.Omega.{arith}
 use native.Mathlib.Nat.{zero-add}
-use mathlib.Core.Path.{◌≡◌, refl, sym, ap, subst, ◌∙◌}
+use mathlib.Core.Path.{◌≡◌, refl, sym, ap, ◌∙◌}
 use mathlib.Core.List.{List, ◌++◌}
 use lib.ListN.{length, take, drop}
 use lib.Seq.{sets, sets-eq, take-append_seam}
 use borrow.Author.Tests.{lt-ltb, le-ltb}
+use Rattle.std.specs.Prelude.{Ok, Err}
+use Rattle.std.specs.declared.result.Result as rattle
 use Rattle.support.specs.Bytes.{Bytes}
 use Rattle.listing.specs.Reading.{Body}
 use Rattle.listing.specs.Listing.{listing}
@@ -15,9 +17,9 @@ use Rattle.template.specs.Result.{Result, refused, accepted, and_then}
 use Rattle.template.specs.Walk.{read_spans}
 use Rattle.template.specs.Compile.{fit}
 use Rattle.template.specs.Answers.{AnswerIs}
-use Rattle.template.specs.Finish.{walk_listing, walk_answer, Buffers, BufferedMeans, BufferedIs}
-use Rattle.template.specs.declared.compile.Answer.{Answer}
-use Rattle.template.specs.declared.compile.Answer.TheVariants.{Listed, Refused}
+use Rattle.template.specs.Finish.{walk_listing, walk_answer, BufferedMeans, BufferedIs}
+use Rattle.template.specs.declared.refusal.Reason.TheVariants as R
+use Rattle.template.specs.declared.refusal.Refusal.{Refusal}
 use Rattle.template.specs.declared.visit.Options.{Options}
 
 -- the answer, from the listing
@@ -44,22 +46,19 @@ abbrev length_of : Result Bytes → ℕ
 length_of (accepted b) = length b
 length_of (refused n p) = 0
 
-module _ (text : Bytes) (words : List ℕ) (o : Options) {l m : Bytes} {a : Answer} (made : BufferedIs (walk_listing text words o) l m a) where
-  listing_made : {n : ℕ} → a ≡ Listed n → Buffers (walk_listing text words o) l m n
-  listing_made e = (subst (λ z. BufferedIs (walk_listing text words o) l m z) e made).means
+module _ (text : Bytes) (words : List ℕ) (o : Options) {l m : Bytes} where
+  pub turned_away : (out : Bytes) {f : Refusal} → BufferedIs (walk_listing text words o) l m (Err f) → AnswerIs (walk_answer text words o (length out)) out out (Err f)
+  turned_away out made = record { means = (fitted text words o (length out) made.means.0, refl) }
 
-  pub turned_away : (out : Bytes) {n p : ℕ} → a ≡ Refused n p → AnswerIs (walk_answer text words o (length out)) out out (Refused n p)
-  turned_away out e = record { means = (fitted text words o (length out) (subst (λ z. BufferedIs (walk_listing text words o) l m z) e made).means.0, refl) }
-
-  module _ {out : Bytes} {n : ℕ} (e : a ≡ Listed n) where
-    pub too_long : length out < n → AnswerIs (walk_answer text words o (length out)) out out (Refused 14 n)
+  module _ {out : Bytes} {n : ℕ} (made : BufferedIs (walk_listing text words o) l m (Ok n)) where
+    pub too_long : length out < n → AnswerIs (walk_answer text words o (length out)) out out (Err (record { reason = R.ListingTooLong; place = n }))
     too_long h =
-        let b = listing_made e in
+        let b = made.means in
         record { means = (fitted text words o (length out) b.answer ∙ too_big b.bytes (length out) (omega (arith, b.count)) ∙ ap (refused 14) (sym b.count), refl) }
 
-    pub handed_over : {k : Bytes} → n ≤ length out → n ≤ length l → k ≡ take n m → AnswerIs (walk_answer text words o (length out)) out (k ++ drop n out) (Listed n)
+    pub handed_over : {k : Bytes} → n ≤ length out → n ≤ length l → k ≡ take n m → AnswerIs (walk_answer text words o (length out)) out (k ++ drop n out) (Ok n)
     handed_over h g c =
-        let b = listing_made e in
+        let b = made.means in
         let whole : take n m ≡ b.bytes =
         ap (take n) (b.stored ∙ stored_whole b.bytes l (omega (arith, b.count))) ∙ ap (λ i. take i (b.bytes ++ drop (length b.bytes) l)) b.count ∙ take-append_seam b.bytes (drop (length b.bytes) l) in
         record {
@@ -71,13 +70,13 @@ module _ (text : Bytes) (words : List ℕ) (o : Options) {l m : Bytes} {a : Answ
           };
         }
 
-    pub made_again : {k : Bytes} {r : Answer} → n ≤ length out → BufferedIs (walk_listing text words o) out k r → AnswerIs (walk_answer text words o (length out)) out k r
+    pub made_again : {k : Bytes} {r : rattle.Result ℕ Refusal} → n ≤ length out → BufferedIs (walk_listing text words o) out k r → AnswerIs (walk_answer text words o (length out)) out k r
     made_again {k} {r} h w = go r w.means
       where
-        go : (r : Answer) → BufferedMeans (walk_listing text words o) out k r → AnswerIs (walk_answer text words o (length out)) out k r
-        go (Refused i p) s = record { means = (fitted text words o (length out) s.0, s.1) }
-        go (Listed i) s =
-            let b = listing_made e in
+        go : (r : rattle.Result ℕ Refusal) → BufferedMeans (walk_listing text words o) out k r → AnswerIs (walk_answer text words o (length out)) out k r
+        go (Err f) s = record { means = (fitted text words o (length out) s.0, s.1) }
+        go (Ok i) s =
+            let b = made.means in
             let same : length b.bytes ≡ length s.bytes = ap length_of (sym b.answer ∙ s.answer) in
             let small : length s.bytes ≤ length out = omega (arith, b.count, same) in
             record {

@@ -1,22 +1,27 @@
 -- 1 to 5: a span by its questions in turn, the search for the first bad one, and what each way out of the checks says. Assumes nothing.
 use Prim.Native.Nat.{ℕ, ◌+◌, ◌%◌, ◌≤◌, ◌<◌}
 use native.Mathlib.Omega.{arith}
-use mathlib.Core.Path.{◌≡◌, sym, ap, subst, ◌∙◌}
+use mathlib.Core.Path.{◌≡◌, refl, sym, ap, ◌∙◌}
 use mathlib.Core.List.{List}
 use mathlib.Core.Bool.{Bool, true, false, ◌||◌, not}
 use mathlib.Core.Option.{none, some}
 use lib.ListN.{length}
-use borrow.Author.Tests.{lt-ltb, le-ltb, eq-eqb, ne_eqb}
-use Rattle.support.specs.Bytes.{Bytes}
+use lib.Dec.{ltb}
+use borrow.Author.Tests.{lt-ltb, le-ltb, eq-eqb, ltb-false, ne_eqb}
+use Rattle.std.specs.Prelude.{Result, Ok, Err}
+use Rattle.support.specs.Bytes.{Bytes, if}
 use Rattle.support.specs.Utf8.{char_length, valid_length, is_char_boundary}
 use Rattle.support.proofs.Pieces.{leading_le}
 use Rattle.json_path.specs.Span.{Span, span_count, span_at, all_from}
 use Rattle.json_path.proofs.Spans.{all_end, all_next}
-use Rattle.template.specs.Result.{Result, refused}
+use Rattle.template.specs.Result.{refused}
 use Rattle.template.specs.Checks.{bad_span, first_bad, bad_span_of, checks}
-use Rattle.template.specs.Checked.{FirstBadIs, CheckedIs}
-use Rattle.template.specs.declared.reason.Checked.{Checked}
-use Rattle.template.specs.declared.reason.Checked.TheVariants as C
+use Rattle.template.specs.Compile.{prevent_indent, is_partial}
+use Rattle.template.specs.Numbers.{reason_number}
+use Rattle.template.specs.Checked.{options_read, FirstBadIs, Passes}
+use Rattle.template.specs.declared.refusal.Reason.TheVariants as R
+use Rattle.template.specs.declared.refusal.Refusal.{Refusal}
+use Rattle.template.specs.declared.visit.Options.{Options}
 
 -- ---- 5, of a span
 
@@ -72,16 +77,25 @@ module _ {text : Bytes} {words : List ℕ} {k : ℕ} (g : Looking text words k) 
 
 -- ---- the checks in turn
 
-abbrev pub refused_at : ℕ → ℕ → Result (Unit {0})
-refused_at n p = refused n p
+abbrev pub by_over : ℕ → Bool → Result Options Refusal
+by_over n b = if b (Err (record { reason = R.Options; place = 0 })) (Ok (record { prevent_indent = prevent_indent n; is_partial = is_partial n }))
+
+-- options that are read are not over 3
+pub options_few : {n : ℕ} {o : Options} → Ok o ≡ options_read n → n ≤ 3
+options_few {n} {o} e = go (ltb 3 n) refl e
+  where
+    go : (b : Bool) → ltb 3 n ≡ b → Ok o ≡ by_over n b → n ≤ 3
+    go true q e = let z : ◌≡◌ {A = ℕ} 0 1 = cc in absurd (omega (arith, z))
+    go false q e = ltb-false 3 n q
 
 module _ (text : Bytes) (words : List ℕ) (options : ℕ) where
-  pub checked_refused : {n p : ℕ} {r : Checked} → r ≡ C.Refused (record { number = n; place = p }) → checks text words options ≡ refused n p → CheckedIs text words options r
-  checked_refused e f = subst (λ z. CheckedIs text words options z) (sym e) (record { means = f })
-
-  pub check_1 : 3 < options → checks text words options ≡ refused 1 0
+  pub check_1 : {f : Refusal} → Err f ≡ options_read options → checks text words options ≡ refused (reason_number f.reason) f.place
   unfolding checks
-  check_1 h = rw (lt-ltb 3 options h)
+  check_1 {f} e = go (ltb 3 options) refl e
+    where
+      go : (b : Bool) → ltb 3 options ≡ b → Err f ≡ by_over options b → checks text words options ≡ refused (reason_number f.reason) f.place
+      go true q e = let z : f ≡ record { reason = R.Options; place = 0 } = cc in rw (q, z)
+      go false q e = let z : ◌≡◌ {A = ℕ} 0 1 = cc in absurd (omega (arith, z))
 
   module _ (few : options ≤ 3) where
     pub check_2 : 16384 < length text → checks text words options ≡ refused 2 0
@@ -108,11 +122,10 @@ module _ (text : Bytes) (words : List ℕ) (options : ℕ) where
             unfolding checks
             check_5 e = rw (le-ltb 3 options few, le-ltb 16384 (length text) short, eq-eqb (length words % 3) 0 threes, le-ltb 4096 (span_count words) spans, le-ltb (valid_length text) (length text) valid, e)
 
-            pub check_good : bad_span_of text words ≡ none → CheckedIs text words options C.Good
+            pub check_good : {o : Options} → options_read options ≡ Ok o → bad_span_of text words ≡ none → Passes text words options o
             unfolding checks
-            check_good e = record {
-              means = record {
-                answer = rw (le-ltb 3 options few, le-ltb 16384 (length text) short, eq-eqb (length words % 3) 0 threes, le-ltb 4096 (span_count words) spans, le-ltb (valid_length text) (length text) valid, e);
-                good = record { short = short; few = spans; valid = omega (arith, leading_le char_length 0 text); spans = e };
-              };
+            check_good q e = record {
+              read = q;
+              answer = rw (le-ltb 3 options few, le-ltb 16384 (length text) short, eq-eqb (length words % 3) 0 threes, le-ltb 4096 (span_count words) spans, le-ltb (valid_length text) (length text) valid, e);
+              good = record { short = short; few = spans; valid = omega (arith, leading_le char_length 0 text); spans = e };
             }

@@ -9,7 +9,8 @@ use mathlib.Core.Option.{some}
 use lib.ListN.{length, take, drop, set, length-set, length-drop, get_or-eq_default}
 use lib.Seq.{set-get_or, take_all}
 use lib.Dec.{eqb, ltb}
-use borrow.Author.Tests.{ne_eqb, eqb-true, eqb-false, le-leb}
+use borrow.Author.Tests.{lt-ltb, le-ltb, ne_eqb, eqb-true, eqb-false, le-leb}
+use Rattle.std.specs.Prelude.{Option, Some, None, Ok}
 use Rattle.support.specs.Bytes.{Bytes, if, part}
 use Rattle.support.specs.Utf8.{is_char_boundary}
 use Rattle.support.specs.Position.{Place, at, linefeeds, place_after, place_at, place_of, line_col}
@@ -25,14 +26,13 @@ use Rattle.template.specs.Escapes.{escapes_to, bad_escapes, unescaped}
 use Rattle.template.specs.Element.{Good, RawGood, raw_means, item_means, place_means, new_element, named_element, empty_element}
 use Rattle.template.specs.Element as role
 use Rattle.template.specs.Store.{element_at, Is, Chain, Holds, Stored}
-use Rattle.template.specs.Visit.{HereIs, leaf_means, Made}
+use Rattle.template.specs.Visit.{HereIs, leaf_means, Made, GapMade}
 use Rattle.template.specs.Links.{followed_by}
 use Rattle.template.specs.Turn.{filled, joined_of, gapped_of, Joined, JoinedIs}
-use Rattle.template.specs.Finish.{rest_text, RestIs, walk_listing, BufferedIs, TreeIs}
-use Rattle.listing.specs.Listing.{write, listing}
+use Rattle.template.specs.Finish.{rest_text, RestMade, RestMeans, RestIs, walk_listing, BufferedIs, TreeIs}
+use Rattle.listing.specs.Listing.{listing}
 use Rattle.listing.specs.Written.{Written}
 use Rattle.template.specs.Result.{accepted}
-use Rattle.template.specs.declared.compile.Answer.TheVariants.{Listed}
 use Rattle.template.specs.declared.element.Front.TheVariants as Front
 use Rattle.template.specs.declared.element.Back.TheVariants as Back
 use Rattle.template.specs.declared.element.TemplateElement.TheVariants as E
@@ -63,7 +63,7 @@ end_between : (text : Bytes) → is_char_boundary text (length text) ≡ true
 unfolding is_char_boundary
 end_between text = rw (le-leb (length text) (length text) (omega arith), get_or-eq_default text 0 {n = length text} (omega arith))
 
-module _ (text : Bytes) (words : List ℕ) (m : Marks) (h : Here) (r : Element) (good : Good text words) (is : RestIs text words m h r) (here : HereIs text h m.end_pos) where
+module _ (text : Bytes) (words : List ℕ) (m : Marks) (h : Here) (r : Element) (good : Good text words) (is : RestMade text words m h r) (here : HereIs text h m.end_pos) where
   rest_place : place_of r.place ≡ place_at text m.end_pos
   rest_place = is.place ∙ ap (λ (p : Place). line_col p (part text h.at m.end_pos)) here.place ∙ line_col_from text h.at m.end_pos (omega (arith, good.short)) here.before
 
@@ -97,14 +97,17 @@ module _ (text : Bytes) (words : List ℕ) (m : Marks) (h : Here) (r : Element) 
       ap (λ (p : Place). item p (item_means text words r.element)) rest_place ∙ ap (item (place_at text n)) a
 
 -- as the code makes it
-pub rest_is : (text : Bytes) (words : List ℕ) (m : Marks) (h : Here) (r : Element) (p : code.Place) (k : ℕ) (b : Bytes) → k ≡ span_count words
+pub rest_is : (text : Bytes) (words : List ℕ) (m : Marks) (h : Here) (r : Element) (p : code.Place) (k : ℕ) (b : Bytes) → m.end_pos < length text → k ≡ span_count words
     → r ≡ new_element (E.RawString (record { start = m.end_pos; end = length text; escapes = k; front = Front.Kept; back = Back.Kept })) p
-    → place_of p ≡ line_col (place_of h.place) b → b ≡ part text h.at m.end_pos → RestIs text words m h r
-rest_is text words m h r p k b a e f g =
+    → place_of p ≡ line_col (place_of h.place) b → b ≡ part text h.at m.end_pos → RestIs text words m h (Some r)
+rest_is text words m h r p k b l a e f g =
     let q : r.place ≡ p = ap (λ (v : Element). v.place) e in
     record {
-      new = e ∙ ap (λ (i : ℕ). new_element (E.RawString (record { start = m.end_pos; end = length text; escapes = i; front = Front.Kept; back = Back.Kept })) p) a ∙ ap (new_element (E.RawString (rest_text text words m))) (sym q);
-      place = ap place_of q ∙ f ∙ ap (line_col (place_of h.place)) g;
+      means = record {
+        left = l;
+        new = e ∙ ap (λ (i : ℕ). new_element (E.RawString (record { start = m.end_pos; end = length text; escapes = i; front = Front.Kept; back = Back.Kept })) p) a ∙ ap (new_element (E.RawString (rest_text text words m))) (sym q);
+        place = ap place_of q ∙ f ∙ ap (line_col (place_of h.place)) g;
+      };
     }
 
 -- ---- it joins the root's body
@@ -128,16 +131,21 @@ module _ (text : Bytes) (words : List ℕ) where
     pub answer : walk_listing text words o ≡ accepted (listing (body_of (rest_of m elems)))
 
 module _ (text : Bytes) (words : List ℕ) (st : List Element) (x : Frame) (len : ℕ) (es : List Elem) (is : RootIs text words st x len es) where
-  module _ (kept : Bool) (e : Element) (made : kept ≡ true → Made text words role.leaf e) (g : Gapped) (eg : g ≡ gapped_of kept e len) (z : ℕ) (ez : z ≡ x.last)
-      (y : Joined) (ey : y ≡ joined_of x (element_at (set st len g.made) z) g.join) where
-    root_joined : Holds text words (set (set st len g.made) z y.last) y.top.first (tree_of (if kept (leaf_means text words e ∷ es) es))
-    unfolding gapped_of joined_of
-    root_joined = rw (ey, eg, ez) (by_kept kept made)
-      where
-        G : Bool → Gapped
-        G k = gapped_of k e len
+  -- the elements with the one that may be added
+  abbrev with_gap : Option Element → List Elem
+  with_gap (Some e) = leaf_means text words e ∷ es
+  with_gap None = es
 
-        Y : Bool → Joined
+  module _ (r : Option Element) (made : GapMade text words r) (g : Gapped) (eg : g ≡ gapped_of r len) (z : ℕ) (ez : z ≡ x.last)
+      (y : Joined) (ey : y ≡ joined_of x (element_at (set st len g.made) z) g.join) where
+    root_joined : Holds text words (set (set st len g.made) z y.last) y.top.first (tree_of (with_gap r))
+    unfolding gapped_of joined_of
+    root_joined = rw (ey, eg, ez) (by_kept r made)
+      where
+        G : Option Element → Gapped
+        G k = gapped_of k len
+
+        Y : Option Element → Joined
         Y k = joined_of x (element_at (set st len (G k).made) x.last) (G k).join
 
         long : (v w : Element) → length (set (set st len v) x.last w) ≡ length st
@@ -149,12 +157,12 @@ module _ (text : Bytes) (words : List ℕ) (st : List Element) (x : Frame) (len 
         near : (v : Element) → Chain text words (set st len v) 0 x.first x.last 1 len (tree_of es)
         near v = frame text words st (set st len v) (tree_of es) 0 x.first x.last 1 len (λ i a b. at_other st len i v (λ q. omega (arith, q, b))) is.chain
 
-        Goal : Joined → Type 0
-        Goal v = Holds text words (set (set st len e) x.last v.last) v.top.first (tree_of (leaf_means text words e ∷ es))
+        Goal : Element → Joined → Type 0
+        Goal e v = Holds text words (set (set st len e) x.last v.last) v.top.first (tree_of (leaf_means text words e ∷ es))
 
-        held : (w : Element) (first' : ℕ) → Made text words role.leaf e → Linked text words (set st len e) (set (set st len e) x.last w) x.first first' x.last len
+        held : (e w : Element) (first' : ℕ) → Made text words role.leaf e → Linked text words (set st len e) (set (set st len e) x.last w) x.first first' x.last len
             → Holds text words (set (set st len e) x.last w) first' (tree_of (leaf_means text words e ∷ es))
-        held w first' m j =
+        held e w first' m j =
             let solo = made_leaf text words (set st len e) len e (at_same st len e is.few) m in
             let c = join_open text words (set st len e) (nest_elem (leaf_means text words e)) x.first x.last 1 len (len + 1) (omega (arith, length-set st len e, is.few)) (omega arith) is.pos solo (tree_of es)
             (set (set st len e) x.last w) first' (near e) j in
@@ -168,52 +176,55 @@ module _ (text : Bytes) (words : List ℕ) (st : List Element) (x : Frame) (len 
         none : len ≡ 0 → ⊥
         none q = omega (arith, q, is.pos)
 
-        put : (v : Joined) → Y true ≡ v → Goal v → Goal (Y true)
-        put v q h = subst Goal (sym q) h
+        put : (e : Element) (v : Joined) → Y (Some e) ≡ v → Goal e v → Goal e (Y (Some e))
+        put e v q h = subst (Goal e) (sym q) h
 
-        by_last : (b : Bool) → eqb x.last 0 ≡ b → Made text words role.leaf e → Goal (Y true)
-        by_last true q m =
-            put (record { top = filled x len len; last = element_at (set st len e) x.last }) (rw (ne_eqb len 0 none, q))
-            (held (element_at (set st len e) x.last) len m (inl (eqb-true x.last 0 q, refl, set-get_or (set st len e) x.last empty_element)))
-        by_last false q m =
-            put (record { top = filled x x.first len; last = followed_by (element_at (set st len e) x.last) len }) (rw (ne_eqb len 0 none, q))
-            (held (followed_by (element_at (set st len e) x.last) len) x.first m (inr (eqb-false x.last 0 q, refl, refl)))
+        by_last : (e : Element) (b : Bool) → eqb x.last 0 ≡ b → Made text words role.leaf e → Goal e (Y (Some e))
+        by_last e true q m =
+            put e (record { top = filled x len len; last = element_at (set st len e) x.last }) (rw (ne_eqb len 0 none, q))
+            (held e (element_at (set st len e) x.last) len m (inl (eqb-true x.last 0 q, refl, set-get_or (set st len e) x.last empty_element)))
+        by_last e false q m =
+            put e (record { top = filled x x.first len; last = followed_by (element_at (set st len e) x.last) len }) (rw (ne_eqb len 0 none, q))
+            (held e (followed_by (element_at (set st len e) x.last) len) x.first m (inr (eqb-false x.last 0 q, refl, refl)))
 
-        by_kept : (k : Bool) → (k ≡ true → Made text words role.leaf e)
-            → Holds text words (set (set st len (G k).made) x.last (Y k).last) (Y k).top.first (tree_of (if k (leaf_means text words e ∷ es) es))
-        by_kept true m = by_last (eqb x.last 0) refl (m refl)
-        by_kept false m =
+        by_kept : (k : Option Element) → GapMade text words k → Holds text words (set (set st len (G k).made) x.last (Y k).last) (Y k).top.first (tree_of (with_gap k))
+        by_kept (Some e) m = by_last e (eqb x.last 0) refl m
+        by_kept None m =
             let s : set (set st len empty_element) x.last (element_at (set st len empty_element) x.last) ≡ set st len empty_element = set-get_or (set st len empty_element) x.last empty_element in
             rw s (record { last = x.last; len = len; few = omega (arith, is.few, length-set st len empty_element); chain = near empty_element })
 
 -- ---- the listing of the whole
 
 -- at the end of the list the element of the text that is left was made
-pub record Rested (text : Bytes) (words : List ℕ) (o : Options) (st : List Element) (x : Frame) (len : ℕ) (m : Marks) (h : Here) (r : Element) (g : Gapped) : Type 0 where
+pub record Rested (text : Bytes) (words : List ℕ) (o : Options) (st : List Element) (x : Frame) (len : ℕ) (m : Marks) (h : Here) (r : Option Element) (g : Gapped) : Type 0 where
   pub good : Good text words
   pub end : Ended text words o st x len m h
   pub is : RestIs text words m h r
-  pub gap : g ≡ gapped_of (ltb m.end_pos (length text)) r len
+  pub gap : g ≡ gapped_of r len
 
 -- and joined the root's body
-module _ {text : Bytes} {words : List ℕ} {o : Options} {st : List Element} {x : Frame} {len : ℕ} {m : Marks} {h : Here} {r : Element} {g : Gapped} (e : Rested text words o st x len m h r g)
+module _ {text : Bytes} {words : List ℕ} {o : Options} {st : List Element} {x : Frame} {len : ℕ} {m : Marks} {h : Here} {r : Option Element} {g : Gapped} (e : Rested text words o st x len m h r g)
     {st' : List Element} {y : Frame} (j : JoinedIs (set st len g.made) x g.join st' y) where
-  -- with this element behind the others, if text is left
-  abbrev whole_with : Elem → T.Body
-  whole_with i = tree_of (if (ltb m.end_pos (length text)) (i ∷ e.end.elems) e.end.elems)
+  -- it was made, or no text is left
+  rest_kept : (r : Option Element) → RestMeans text words m h r → GapMade text words r
+  rest_kept (Some i) q = rest_made text words m h i e.good q e.end.here
+  rest_kept None q = tt
 
-  ended_holds : Holds text words st' y.first (whole_with (leaf_means text words r))
+  rest_joined : (r : Option Element) → RestMeans text words m h r → with_gap text words st x len e.end.elems e.end.root r ≡ rest_of text words m e.end.elems
+  rest_joined (Some i) q = rw (lt-ltb m.end_pos (length text) q.left) (ap (λ (k : Elem). k ∷ e.end.elems) (rest_means_lem text words m h i e.good q e.end.here))
+  rest_joined None q = rw (le-ltb m.end_pos (length text) q)
+
+  ended_holds : Holds text words st' y.first (tree_of (rest_of text words m e.end.elems))
   ended_holds =
-      rw (j.store, j.top)
-      (root_joined text words st x len e.end.elems e.end.root (ltb m.end_pos (length text)) r (λ q. rest_made text words m h r e.good e.is e.end.here) g e.gap x.last refl _ refl)
+      rw (j.store, j.top, ← rest_joined r e.is.means)
+      (root_joined text words st x len e.end.elems e.end.root r (rest_kept r e.is.means) g e.gap x.last refl _ refl)
 
   pub ended_stored : Stored text words st' y.first
   ended_stored = record { body = _; holds = ended_holds }
 
   -- where the tree is listed
-  pub ended_answer : {l k : Bytes} {q : ℕ} → TreeIs text words st' y.first l k q → BufferedIs (walk_listing text words o) l k (Listed q)
+  pub ended_answer : {l k : Bytes} {q : ℕ} → TreeIs text words st' y.first l k q → BufferedIs (walk_listing text words o) l k (Ok q)
   unfolding listing
   ended_answer {l} {k} {q} t =
-      let v : Written (listing (body_of (rest_of text words m e.end.elems))) l 0 k q =
-      subst (λ (i : Elem). Written (write (whole_with i)) l 0 k q) (rest_means_lem text words m h r e.good e.is e.end.here) (t.lists _ ended_holds) in
+      let v : Written (listing (body_of (rest_of text words m e.end.elems))) l 0 k q = t.lists _ ended_holds in
       record { means = record { bytes = _; answer = e.end.answer; count = omega (arith, v.next); stored = v.stored } }

@@ -1,12 +1,14 @@
 -- A step's gap and places over plain values: what the code's element and marks make of a state is what the specification makes of it.
 use Prim.Native.Nat.{ℕ, ◌+◌, ◌≤◌}
 use native.Mathlib.Omega.{arith}
-use mathlib.Core.Path.{◌≡◌, refl, sym, ap, subst, ◌∙◌}
+use mathlib.Core.Path.{◌≡◌, refl, sym, ap, ◌∙◌}
 use mathlib.Core.List.{List}
 use mathlib.Core.Bool.{Bool, true, false, ◌&&◌, not, and-false}
 use mathlib.Core.Option.{Option, some}
 use lib.ListN.{take}
 use borrow.Author.Tests.{ne_eqb}
+use Rattle.std.specs.Prelude.{Some, None}
+use Rattle.std.specs.declared.option.Option as rattle
 use Rattle.support.specs.Bytes.{Bytes, if, part}
 use Rattle.support.specs.Utf8.{is_char_boundary}
 use Rattle.support.specs.WhiteSpace.{trim_start}
@@ -22,9 +24,9 @@ use Rattle.template.specs.State.{Level, State, state, prev_end, add_to}
 use Rattle.template.specs.Nests.{kept_gap}
 use Rattle.template.specs.Escapes.{escapes_to, bad_escapes, unescaped}
 use Rattle.template.specs.Step.{trim_line, trim_marked, trim_front, after_gap, take_gap}
-use Rattle.template.specs.Element.{front_trim, place_means, raw_means, item_means, RawGood, leaf, role_of, Sound, no_name, new_element, named_element}
+use Rattle.template.specs.Element.{front_trim, place_means, raw_means, item_means, RawGood, role_of, Sound, no_name, new_element, named_element}
 use Rattle.template.specs.Visit.{stage_means, MarksAre, HereIs, leaf_means, gap_effect, Made, GapMade}
-use Rattle.template.specs.Visiting.{SpanFits, front_of, raw_front, gap_text}
+use Rattle.template.specs.Visiting.{SpanFits, front_of, raw_front, gap_text, gap_element}
 use Rattle.template.specs.declared.element.Front.TheVariants as Front
 use Rattle.template.specs.declared.element.TemplateElement.{TemplateElement}
 use Rattle.template.specs.declared.element.TemplateElement.TheVariants as E
@@ -96,23 +98,26 @@ module _ (text : Bytes) (words : List ℕ) (s : Span) {m : Marks} {st : State} (
     escapes = rw (escapes_end words (span_count words) (omega arith));
   }
 
-  module _ {p : code.Place} {e : Element} (new : e ≡ new_element (E.RawString (gap_text words m s)) p) (q : place_of p ≡ place_at text s.start) where
-    gap_leaf : leaf_means text words e ≡ item (place_at text s.start) (T.text (trim_marked st (part text (prev_end st) s.start)))
-    unfolding item_means
-    gap_leaf = rw new (cc (q, gap_means))
+  module _ {p : code.Place} (q : place_of p ≡ place_at text s.start) where
+    abbrev gap_new : Element
+    gap_new = new_element (E.RawString (gap_text words m s)) p
 
-    pub gap_made_lem : {here : Here} (b : Bool) → SpanFits text s → HereIs text here (prev_end st) → prev_end st ≤ s.start → GapMade text words b e
-    gap_made_lem true f i k = subst (λ z. Made text words leaf z) (sym new) (made text words (E.RawString (gap_text words m s)) no_name p (place_some text s.start q) (gap_good f i k))
-    gap_made_lem false f i k = tt
+    gap_leaf : leaf_means text words gap_new ≡ item (place_at text s.start) (T.text (trim_marked st (part text (prev_end st) s.start)))
+    unfolding item_means
+    gap_leaf = cc (q, gap_means)
+
+    pub gap_made_lem : {here : Here} {x : rattle.Option Element} (b : Bool) → x ≡ gap_element words m s p b → SpanFits text s → HereIs text here (prev_end st) → prev_end st ≤ s.start → GapMade text words x
+    gap_made_lem true e f i k = rw e (made text words (E.RawString (gap_text words m s)) no_name p (place_some text s.start q) (gap_good f i k))
+    gap_made_lem false e f i k = rw e tt
 
     -- the state behind the gap
-    pub taken : (g : Stage) {l : Bool} (b : Bool) → b ≡ kept_gap st s
+    pub taken : (g : Stage) {l : Bool} {x : rattle.Option Element} (b : Bool) → x ≡ gap_element words m s p b → b ≡ kept_gap st s
         → stage_means g ≡ if b (after_gap (stage_means m.stage)) (stage_means m.stage) → l ≡ (m.trim_line_required && not b)
-        → take_gap text s st ≡ state (stage_means g) (gap_effect text words b e st).top st.outer st.end_pos st.omit_pro_ws l
+        → take_gap text s st ≡ state (stage_means g) (gap_effect text words x st).top st.outer st.end_pos st.omit_pro_ws l
     unfolding take_gap
-    taken g true k i j = rw (← k) (state_as (ap after_gap (sym h.stage) ∙ sym i) (ap (λ x. add_to x st.top) (sym gap_leaf)) refl refl refl (sym (j ∙ and-false m.trim_line_required)))
-    taken g false k i j = rw (← k) (state_as (sym h.stage ∙ sym i) refl refl refl refl (sym (j ∙ and_yes m.trim_line_required ∙ h.trim_line)))
+    taken g true e k i j = rw (e, ← k) (state_as (ap after_gap (sym h.stage) ∙ sym i) (ap (λ x. add_to x st.top) (sym gap_leaf)) refl refl refl (sym (j ∙ and-false m.trim_line_required)))
+    taken g false e k i j = rw (e, ← k) (state_as (sym h.stage ∙ sym i) refl refl refl refl (sym (j ∙ and_yes m.trim_line_required ∙ h.trim_line)))
 
-pub gap_outer : (text : Bytes) (words : List ℕ) (b : Bool) (e : Element) (st : State) → (gap_effect text words b e st).outer ≡ st.outer
-gap_outer text words true e st = refl
-gap_outer text words false e st = refl
+pub gap_outer : (text : Bytes) (words : List ℕ) (x : rattle.Option Element) (st : State) → (gap_effect text words x st).outer ≡ st.outer
+gap_outer text words (Some e) st = refl
+gap_outer text words None st = refl

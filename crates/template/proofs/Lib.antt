@@ -1,6 +1,7 @@
 pub mod TagKinds
 pub mod Steps
 pub mod Decides
+pub mod Exits
 pub mod SpanReasons
 pub mod WalkEquations
 pub mod WalkReasons

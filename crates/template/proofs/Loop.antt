@@ -7,6 +7,8 @@ use mathlib.Core.Bool.{Bool, true, false}
 use mathlib.Core.Logic.{◌⊎◌, inl, inr}
 use mathlib.Core.List.{List, [], ◌∷◌}
 use lib.ListN.{length, set}
+use Rattle.std.specs.Prelude.{Option, Some, None, Ok, Err}
+use Rattle.std.specs.declared.result.Result as rattle
 use Rattle.support.specs.Bytes.{Bytes}
 use Rattle.json_path.specs.Span.{span_count, spans_from}
 use Rattle.listing.specs.Reading.{Elem}
@@ -31,8 +33,7 @@ use Rattle.template.specs.declared.visit.Act.{Act}
 use Rattle.template.specs.declared.visit.Act.TheVariants as A
 use Rattle.template.specs.declared.visit.Added.TheVariants as N
 use Rattle.template.specs.declared.visit.Step.{Step}
-use Rattle.template.specs.declared.visit.Visit.{Visit}
-use Rattle.template.specs.declared.visit.Visit.TheVariants as Vis
+use Rattle.template.specs.declared.refusal.Refusal.{Refusal}
 use Rattle.template.specs.declared.turn.Turn.{Turn}
 use Rattle.template.specs.declared.turn.Plan.{Plan}
 use Rattle.template.specs.declared.turn.Gapped.{Gapped}
@@ -53,9 +54,9 @@ owner_trimmed f (level o []) = refl
 owner_trimmed f (level o (e ∷ es)) = refl
 
 -- no gap, no element
-gap_none : (kept : Bool) (e : Element) (len : ℕ) → kept ≡ false → (gapped_of kept e len).len ≡ len
+gap_none : (e : Option Element) (len : ℕ) → e ≡ None → (gapped_of e len).len ≡ len
 unfolding gapped_of
-gap_none kept e len q = rw q
+gap_none e len q = rw q
 
 -- what is open is told by the owner
 open_by : (l m : Level) → owner_of l ≡ owner_of m → open_of l ≡ open_of m
@@ -64,27 +65,27 @@ open_by (level o es) (level u fs) e = ap (λ (v : Owner). open_of (level v es)) 
 module _ (text : Bytes) (words : List ℕ) where
   -- the state before the act
   abbrev pub readied : Step → State → State
-  readied p s = trim_effect text words p.back (gap_effect text words p.gapped p.gap s)
+  readied p s = trim_effect text words p.back (gap_effect text words p.gap s)
 
-  gap_top_lem : (kept : Bool) (e : Element) (s : State) → gap_top text words kept e s.top ≡ (gap_effect text words kept e s).top
-  gap_top_lem true e s = refl
-  gap_top_lem false e s = refl
+  gap_top_lem : (e : Option Element) (s : State) → gap_top text words e s.top ≡ (gap_effect text words e s).top
+  gap_top_lem (Some e) s = refl
+  gap_top_lem None s = refl
 
-  gap_outer : (kept : Bool) (e : Element) (s : State) → (gap_effect text words kept e s).outer ≡ s.outer
-  gap_outer true e s = refl
-  gap_outer false e s = refl
+  gap_outer : (e : Option Element) (s : State) → (gap_effect text words e s).outer ≡ s.outer
+  gap_outer (Some e) s = refl
+  gap_outer None s = refl
 
-  gap_owner : (kept : Bool) (e : Element) (l : Level) → owner_of (gap_top text words kept e l) ≡ owner_of l
-  gap_owner true e l = owner_added _ l
-  gap_owner false e l = refl
+  gap_owner : (e : Option Element) (l : Level) → owner_of (gap_top text words e l) ≡ owner_of l
+  gap_owner (Some e) l = owner_added _ l
+  gap_owner None l = refl
 
   ready_owner : (p : Step) (s : State) → owner (readied p s) ≡ owner s
   ready_owner p s =
-      owner_trimmed (back_trim p.back) (gap_effect text words p.gapped p.gap s).top ∙ ap owner_of (sym (gap_top_lem p.gapped p.gap s)) ∙ gap_owner p.gapped p.gap s.top
+      owner_trimmed (back_trim p.back) (gap_effect text words p.gap s).top ∙ ap owner_of (sym (gap_top_lem p.gap s)) ∙ gap_owner p.gap s.top
 
   ready_count : (p : Step) (s : State) → open_count (readied p s) ≡ open_count s
   unfolding sum_open
-  ready_count p s = rw (open_by (readied p s).top s.top (ready_owner p s), gap_outer p.gapped p.gap s)
+  ready_count p s = rw (open_by (readied p s).top s.top (ready_owner p s), gap_outer p.gap s)
 
   allowed : (a : Act) (s s' : State) → owner s' ≡ owner s → open_count s' ≡ open_count s → Allowed text words a s → Allowed text words a s'
   allowed A.Skip s s' o c h = h
@@ -139,11 +140,11 @@ module _ (text : Bytes) (words : List ℕ) where
 
     -- what is known of a step that a turn makes
     pub record Goes (at : ℕ) (closing : Bool) (p : Step) (s : State) : Type 0 where
-      pub gapless : closing ≡ true → p.gapped ≡ false
-      pub first : s.stage ≡ waiting → owner s ≡ root → p.gapped ≡ false
+      pub gapless : closing ≡ true → p.gap ≡ None
+      pub first : s.stage ≡ waiting → owner s ≡ root → p.gap ≡ None
       pub whole : closing ≡ true → p.back ≡ Back.Kept
       pub idle : closing ≡ true → p.act ≡ A.Skip
-      pub gap : GapMade text words p.gapped p.gap
+      pub gap : GapMade text words p.gap
       pub act : closing ≡ false → Allowed text words p.act s
       pub steps : walked s at ≡ walked (applied text words p s) p.next
       pub here : HereIs text p.here p.marks.end_pos
@@ -195,18 +196,18 @@ module _ (text : Bytes) (words : List ℕ) where
           onward = (h.onward, h.inside);
         }
 
-    step_of : (p q : Step) → ◌≡◌ {A = Visit} (Vis.Step p) (Vis.Step q) → p ≡ q
+    step_of : (p q : Step) → ◌≡◌ {A = rattle.Result (Option Step) Refusal} (Ok (Some p)) (Ok (Some q)) → p ≡ q
     step_of p q e = ap pick e
       where
-        pick : Visit → Step
-        pick (Vis.Refused f) = p
-        pick Vis.End = p
-        pick (Vis.Step r) = r
+        pick : rattle.Result (Option Step) Refusal → Step
+        pick (Err f) = p
+        pick (Ok None) = p
+        pick (Ok (Some r)) = r
 
-    pub goes : (closing : Bool) (v : View) (at : ℕ) (r : Visit) (p : Step) (s : State) → LookIs text words o v at closing r → r ≡ Vis.Step p → MarksAre v.marks s → HereIs text v.here (prev_end s)
+    pub goes : (closing : Bool) (v : View) (at : ℕ) (r : rattle.Result (Option Step) Refusal) (p : Step) (s : State) → LookIs text words o v at closing r → r ≡ Ok (Some p) → MarksAre v.marks s → HereIs text v.here (prev_end s)
         → (closing ≡ false → Tells text v s) → Goes at closing p s
     goes true v at r p s k e a b t = subst (λ (q : Step). Goes at true q s) (step_of (still_step v at) p (sym (k.still refl) ∙ e)) (still_goes v at s a b)
-    goes false v at r p s k e a b t = step_goes at p s (subst (λ (q : Visit). VisitMeans text words o at q s) e ((k.visits refl).means s (t refl)))
+    goes false v at r p s k e a b t = step_goes at p s (subst (λ (q : rattle.Result (Option Step) Refusal). VisitMeans text words o at q s) e ((k.visits refl).means s (t refl)))
 
 -- ---- the stages of a turn
 
@@ -221,7 +222,7 @@ module _ {text : Bytes} {words : List ℕ} {o : Options} {n : ℕ} {st : List El
   -- the step's gap is made
   pub record Gaps (p : Step) (g : Gapped) : Type 0 where
     pub goes : Goes text words o at closing p held.now
-    pub made : g ≡ gapped_of p.gapped p.gap len
+    pub made : g ≡ gapped_of p.gap len
 
   -- it joins the body
   pub record Joins (p : Step) (g : Gapped) (y : Joined) : Type 0 where
@@ -252,13 +253,13 @@ module _ {text : Bytes} {words : List ℕ} {o : Options} {n : ℕ} {st : List El
   module _ {p : Step} {g : Gapped} (a : Gaps held p g) where
     -- how many elements there are with the gap
     gap_is : (len ≤ g.len) × (g.len ≤ len + 1) × (closing ≡ true → g.len ≡ len)
-    gap_is = gap_len text words n st lv x depth len count held.now.top held.now.outer (omega (arith, held.within)) closing p.gapped p.gap g a.goes.gapless a.made
+    gap_is = gap_len text words n st lv x depth len count held.now.top held.now.outer (omega (arith, held.within)) closing p.gap g a.goes.gapless a.made
 
     gap_few : closing ≡ false → g.len ≤ 2 * at + 1
     gap_few q = by_case held.few
       where
         by_case : Few text words held.now closing len at → g.len ≤ 2 * at + 1
-        by_case (inl c) = omega (arith, ap (λ (y : Gapped). y.len) a.made, gap_none p.gapped p.gap len (a.goes.first c.3 c.4), c.2)
+        by_case (inl c) = omega (arith, ap (λ (y : Gapped). y.len) a.made, gap_none p.gap len (a.goes.first c.3 c.4), c.2)
         by_case (inr c) = omega (arith, gap_is.1, c)
 
     -- there is room for one element more
@@ -270,9 +271,9 @@ module _ {text : Bytes} {words : List ℕ} {o : Options} {n : ℕ} {st : List El
         by_mode false u k f = omega (arith, held.enough, u.1, f refl)
 
   module _ {p : Step} {g : Gapped} {y : Joined} (b : Joins held p g y) where
-    joined_at : Kept text words n (set (set st len g.made) x.last y.last) lv y.top depth g.len count closing (gap_top text words p.gapped p.gap held.now.top) held.now.outer
+    joined_at : Kept text words n (set (set st len g.made) x.last y.last) lv y.top depth g.len count closing (gap_top text words p.gap held.now.top) held.now.outer
     joined_at =
-        let gap = gapped text words n st lv x depth len count held.now.top held.now.outer held.within closing p.gapped p.gap g b.gaps.goes.gapless b.gaps.goes.gap b.gaps.made held.kept in
+        let gap = gapped text words n st lv x depth len count held.now.top held.now.outer held.within closing p.gap g b.gaps.goes.gapless b.gaps.goes.gap b.gaps.made held.kept in
         linked text words n (set st len g.made) lv x depth g.len count closing g.join _ _ gap (omega (arith, room b.gaps)) x.last y refl b.joined
 
     pub joined_last : y.top.last < n
@@ -282,8 +283,8 @@ module _ {text : Bytes} {words : List ℕ} {o : Options} {n : ℕ} {st : List El
     ready_at : Kept text words n (ready_store held g y v) lv y.top depth g.len count closing (readied text words p held.now).top (readied text words p held.now).outer
     ready_at =
         let go = t.joins.gaps.goes in
-        subst (λ (z : Level). Kept text words n (ready_store held g y v) lv y.top depth g.len count closing (trim_last (back_trim p.back) z) (readied text words p held.now).outer) (gap_top_lem text words p.gapped p.gap held.now)
-        (subst (λ (z : List Level). Kept text words n (ready_store held g y v) lv y.top depth g.len count closing (trim_last (back_trim p.back) (gap_top text words p.gapped p.gap held.now.top)) z) (sym (gap_outer text words p.gapped p.gap held.now))
+        subst (λ (z : Level). Kept text words n (ready_store held g y v) lv y.top depth g.len count closing (trim_last (back_trim p.back) z) (readied text words p held.now).outer) (gap_top_lem text words p.gap held.now)
+        (subst (λ (z : List Level). Kept text words n (ready_store held g y v) lv y.top depth g.len count closing (trim_last (back_trim p.back) (gap_top text words p.gap held.now.top)) z) (sym (gap_outer text words p.gap held.now))
         (trimmed text words n (set (set st len g.made) x.last y.last) lv y.top depth g.len count _ _ (omega (arith, room t.joins.gaps)) closing p.back y.top.last v go.whole refl t.trims (joined_at t.joins)))
 
     -- the owner of the open body is in use

@@ -10,6 +10,8 @@ use lib.ListN.{length, set, length-set}
 use lib.Seq.{set-get_or}
 use lib.Dec.{eqb}
 use borrow.Author.Tests.{ne_eqb, eqb-true, eqb-false}
+use Rattle.std.specs.Prelude.{Some, None}
+use Rattle.std.specs.declared.option.Option as rattle
 use Rattle.support.specs.Bytes.{Bytes}
 use Rattle.listing.specs.Tree as T
 use Rattle.listing.specs.Reading.{Elem, item, block, wrap}
@@ -129,9 +131,9 @@ module _ (text : Bytes) (words : List ℕ) where
   -- ---- the gap joins
 
   -- the innermost body with the gap, if it is kept
-  abbrev pub gap_top : Bool → Element → Level → Level
-  gap_top true e l = add_to (leaf_means text words e) l
-  gap_top false e l = l
+  abbrev pub gap_top : rattle.Option Element → Level → Level
+  gap_top (Some e) l = add_to (leaf_means text words e) l
+  gap_top None l = l
 
   module _ (n : ℕ) (st : List Element) (lv : List Frame) (x : Frame) (depth len count : ℕ) (l : Level) (ls : List Level) (room : len < n) where
     stored : (e : Element) → Same st (set st len e) 1 len
@@ -148,7 +150,7 @@ module _ (text : Bytes) (words : List ℕ) where
           bottom = bottom_other st len e k.pos k.bottom;
         }
 
-    gap_some : (e : Element) → GapMade text words true e → Kept text words n st lv x depth len count false l ls → Planned text words n (set st len e) lv x depth (len + 1) count false len (gap_top true e l) ls
+    gap_some : (e : Element) → GapMade text words (Some e) → Kept text words n st lv x depth len count false l ls → Planned text words n (set st len e) lv x depth (len + 1) count false len (gap_top (Some e) l) ls
     gap_some e m k =
         record {
           mid = go l k.fits;
@@ -159,22 +161,25 @@ module _ (text : Bytes) (words : List ℕ) where
           bottom = bottom_other st len e k.pos k.bottom;
         }
       where
-        go : (l : Level) → Fits text words st lv x depth len count false l ls → Mid text words (set st len e) lv x depth (len + 1) count false len (gap_top true e l) ls
+        go : (l : Level) → Fits text words st lv x depth len count false l ls → Mid text words (set st len e) lv x depth (len + 1) count false len (gap_top (Some e) l) ls
         go (level o es) c =
             add_step text words st (set st len e) lv lv x depth len count (ref_chain_head x.block x.head) k.pos refl (λ i a. refl) o es ls e (at_same st len e (omega (arith, k.long))) m (stored e) c
 
-    pub gapped : (closing kept : Bool) (e : Element) (g : Gapped) → (closing ≡ true → kept ≡ false) → GapMade text words kept e → g ≡ gapped_of kept e len → Kept text words n st lv x depth len count closing l ls
-        → Planned text words n (set st len g.made) lv x depth g.len count closing g.join (gap_top kept e l) ls
+    closed : {e : Element} {P : Type 0} (closing : Bool) → (closing ≡ true → ◌≡◌ {A = rattle.Option Element} (Some e) None) → closing ≡ true → P
+    closed closing c q = absurd (let z : ◌≡◌ {A = ℕ} 0 1 = (let f = c q in cc) in omega (arith, z))
+
+    pub gapped : (closing : Bool) (e : rattle.Option Element) (g : Gapped) → (closing ≡ true → e ≡ None) → GapMade text words e → g ≡ gapped_of e len → Kept text words n st lv x depth len count closing l ls
+        → Planned text words n (set st len g.made) lv x depth g.len count closing g.join (gap_top e l) ls
     unfolding gapped_of
-    gapped closing false e g c m q k = rw q (gap_none closing empty_element k)
-    gapped false true e g c m q k = rw q (gap_some e m k)
-    gapped true true e g c m q k = absurd (let z : ◌≡◌ {A = ℕ} 0 1 = (let f = c refl in cc) in omega (arith, z))
+    gapped closing None g c m q k = rw q (gap_none closing empty_element k)
+    gapped false (Some e) g c m q k = rw q (gap_some e m k)
+    gapped true (Some e) g c m q k = closed true c refl
 
     -- how many elements there are then
-    pub gap_len : (closing kept : Bool) (e : Element) (g : Gapped) → (closing ≡ true → kept ≡ false) → g ≡ gapped_of kept e len → (len ≤ g.len) × (g.len ≤ len + 1) × (closing ≡ true → g.len ≡ len)
+    pub gap_len : (closing : Bool) (e : rattle.Option Element) (g : Gapped) → (closing ≡ true → e ≡ None) → g ≡ gapped_of e len → (len ≤ g.len) × (g.len ≤ len + 1) × (closing ≡ true → g.len ≡ len)
     unfolding gapped_of
-    gap_len closing false e g c q = rw q (omega arith, omega arith, λ z. refl)
-    gap_len closing true e g c q = rw q (omega arith, omega arith, λ z. absurd (let y : ◌≡◌ {A = ℕ} 0 1 = (let f = c z in cc) in omega (arith, y)))
+    gap_len closing None g c q = rw q (omega arith, omega arith, λ z. refl)
+    gap_len closing (Some e) g c q = rw q (omega arith, omega arith, λ z. closed closing c z)
 
   -- ---- the last text is trimmed
 

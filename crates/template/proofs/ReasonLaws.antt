@@ -19,7 +19,7 @@ use Rattle.listing.specs.Tree as T
 use Rattle.template.specs.Kind.{BlockKind, helper_block, raw_block, decorator_block, partial_block, skipped, block_end, Kind, plain, tagged, kinds, kind_of}
 use Rattle.template.specs.State as S
 use Rattle.template.specs.State.{Owner, State, owner, open_count}
-use Rattle.template.specs.Nests.{kept_gap, is_filling, is_waiting, is_raw, takes_else, is_of_kind, may_end, plain_nests, tag_nests, nests}
+use Rattle.template.specs.Nests.{kept_gap, is_filling, is_waiting, takes_else, is_of_kind, may_end, plain_nests, tag_nests, nests}
 use Rattle.template.specs.Refusal.{one_too_many, too_many_open, same_name, is_empty_name, closes_name, helper_name_differs, decorator_name_differs}
 use Rattle.template.specs.Visit.{stage_means, OpenedIs}
 use Rattle.template.specs.Asked.{KeptIs, RawIs, TakesIs, end_tag, OfKindIs, NestsIs, TooManyIs, NamesAre, HelperDiffersIs, DecoratorDiffersIs}
@@ -68,70 +68,6 @@ module _ {m : Marks} {s : Span} where
     kept_high h = kept_by (le-leb 1 s.tag (omega arith)) (lt-leb s.tag 3 h)
 
 -- ---- the innermost block
-
-abbrev pub raw_of : Opened → Bool
-raw_of O.Root = false
-raw_of O.Helper = false
-raw_of O.Raw = true
-raw_of O.Decorator = false
-raw_of O.Partial = false
-
-raw_means_lem : (o : Opened) (i : Bool) (w : Owner) → OpenedIs o i w → raw_of o ≡ is_raw w
-raw_means_lem O.Root i S.root h = refl
-raw_means_lem O.Root i (S.helper raw p done x) h = absurd h
-raw_means_lem O.Root i (S.in_else p x b done) h = absurd h
-raw_means_lem O.Root i (S.wrapper p w) h = absurd h
-raw_means_lem O.Helper i S.root h = absurd h
-raw_means_lem O.Helper i (S.helper raw p done x) h = sym h.1
-raw_means_lem O.Helper i (S.in_else p x b done) h = refl
-raw_means_lem O.Helper i (S.wrapper p w) h = absurd h
-raw_means_lem O.Raw i S.root h = absurd h
-raw_means_lem O.Raw i (S.helper raw p done x) h = sym h.1
-raw_means_lem O.Raw i (S.in_else p x b done) h = absurd h
-raw_means_lem O.Raw i (S.wrapper p w) h = absurd h
-raw_means_lem O.Decorator i S.root h = absurd h
-raw_means_lem O.Decorator i (S.helper raw p done x) h = absurd h
-raw_means_lem O.Decorator i (S.in_else p x b done) h = absurd h
-raw_means_lem O.Decorator i (S.wrapper p w) h = refl
-raw_means_lem O.Partial i S.root h = absurd h
-raw_means_lem O.Partial i (S.helper raw p done x) h = absurd h
-raw_means_lem O.Partial i (S.in_else p x b done) h = absurd h
-raw_means_lem O.Partial i (S.wrapper p w) h = refl
-
-pub raw_is : {o : Opened} {r : Bool} → raw_of o ≡ r → RawIs o r
-raw_is {o} e = record { means = λ i w h. sym e ∙ raw_means_lem o i w h }
-
-abbrev pub takes_of : Bool → Opened → Bool
-takes_of i O.Root = false
-takes_of i O.Helper = not i
-takes_of i O.Raw = false
-takes_of i O.Decorator = false
-takes_of i O.Partial = false
-
-takes_means : (o : Opened) (i : Bool) (w : Owner) → OpenedIs o i w → takes_of i o ≡ takes_else w
-takes_means O.Root i S.root h = refl
-takes_means O.Root i (S.helper raw p done x) h = absurd h
-takes_means O.Root i (S.in_else p x b done) h = absurd h
-takes_means O.Root i (S.wrapper p w) h = absurd h
-takes_means O.Helper i S.root h = absurd h
-takes_means O.Helper i (S.helper raw p done x) h = ap not (h.0 ∙ sym h.1)
-takes_means O.Helper i (S.in_else p x b done) h = ap not h
-takes_means O.Helper i (S.wrapper p w) h = absurd h
-takes_means O.Raw i S.root h = absurd h
-takes_means O.Raw i (S.helper raw p done x) h = ap not (sym h.1)
-takes_means O.Raw i (S.in_else p x b done) h = absurd h
-takes_means O.Raw i (S.wrapper p w) h = absurd h
-takes_means O.Decorator i S.root h = absurd h
-takes_means O.Decorator i (S.helper raw p done x) h = absurd h
-takes_means O.Decorator i (S.in_else p x b done) h = absurd h
-takes_means O.Decorator i (S.wrapper p w) h = refl
-takes_means O.Partial i S.root h = absurd h
-takes_means O.Partial i (S.helper raw p done x) h = absurd h
-takes_means O.Partial i (S.in_else p x b done) h = absurd h
-takes_means O.Partial i (S.wrapper p w) h = refl
-
-pub takes_is : {o : Opened} {i r : Bool} → takes_of i o ≡ r → TakesIs o i r
-takes_is {o} {i} e = record { means = λ w h. sym e ∙ takes_means o i w h }
 
 abbrev pub end_of : ℕ → Opened → Bool
 end_of t O.Root = false

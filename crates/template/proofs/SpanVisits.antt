@@ -8,6 +8,7 @@ use mathlib.Core.Option.{none}
 use lib.Dec.{ltb}
 use lib.ListN.{length}
 use borrow.Author.Tests.{lt-ltb, le-ltb, ltb-false, not-false}
+use Rattle.std.specs.Prelude.{Option, Some, None, is_some, Result, Ok, Err}
 use Rattle.support.specs.Bytes.{Bytes, if, part}
 use Rattle.support.specs.Utf8.{is_char_boundary}
 use Rattle.support.specs.Position.{line_col}
@@ -21,6 +22,7 @@ use Rattle.expression.specs.declared.parameter.Fault.{Fault}
 use Rattle.expression.specs.declared.parameter.AsName.{AsName}
 use Rattle.template.specs.Kind.{Tag, tagged, kind_of}
 use Rattle.template.specs.State.{State, prev_end}
+use Rattle.template.specs.Result as spec
 use Rattle.template.specs.Result.{accepted, refused, and_then, refuse_if}
 use Rattle.template.specs.Checks.{bad_span, first_bad}
 use Rattle.template.specs.Nests.{kept_gap, nests, starts_early}
@@ -28,22 +30,22 @@ use Rattle.template.specs.Refusal.{fault_place, too_many_open, helper_name_diffe
 use Rattle.template.specs.TagExpression.{read_tag}
 use Rattle.template.specs.Walk.{walk_tag, walk_kind, walk_span, walk}
 use Rattle.template.specs.Element.{Good}
+use Rattle.template.specs.Numbers.{reason_number}
 use Rattle.template.specs.Asked.{KeptIs, NestsIs, TooManyIs, HelperDiffersIs, DecoratorDiffersIs}
 use Rattle.template.specs.TagRead.{tag_means, TagDone, TagReadIs}
 use Rattle.template.specs.Visit.{Tells, StepIs, VisitIs}
-use Rattle.template.specs.Visiting.{SpanFits, Visited, Makes, KindIs, TagMakes, TagStepIs, refusal_of, RefusalIs, AdvanceIs}
+use Rattle.template.specs.Visiting.{SpanFits, Visited, Makes, KindIs, TagMakes, refusal_of, RefusalIs, AdvanceIs}
 use Rattle.template.specs.declared.tag.TagExpression.{TagExpression}
-use Rattle.template.specs.declared.tag.TagRead.TheVariants as R
+use Rattle.template.specs.declared.refusal.Reason.{Reason}
+use Rattle.template.specs.declared.refusal.Reason.TheVariants as R
+use Rattle.template.specs.declared.refusal.Refusal.{Refusal}
 use Rattle.template.specs.declared.visit.Options.{Options}
 use Rattle.template.specs.declared.visit.Here.{Here}
 use Rattle.template.specs.declared.visit.View.{View}
 use Rattle.template.specs.declared.visit.Step.{Step}
-use Rattle.template.specs.declared.visit.Visit.{Visit}
-use Rattle.template.specs.declared.visit.Visit.TheVariants as Vis
 use Rattle.template.proofs.TagKinds.{some_tag}
 use Rattle.template.proofs.TagSteps.{tag_gapless}
 use Rattle.template.proofs.WalkEquations.{walk_next, walk_stop}
-use Rattle.template.proofs.VisitLaws.{kind_refused}
 use Rattle.template.proofs.RawEscapes.{or_false_left, or_false_right}
 
 -- ---- 5 holds of no span
@@ -87,108 +89,113 @@ walked_fits {text} {words} {k} {s} g w =
 
 -- ---- a tag
 
+is_none : {A : Type 0} {o : Option A} → is_some o ≡ false → o ≡ None
+is_none {o = Some a} e = let z : ◌≡◌ {A = ℕ} 0 1 = cc in absurd (omega (arith, z))
+is_none {o = None} e = refl
+
 module _ (text : Bytes) (words : List ℕ) (o : Options) (v : View) (s : Span) (gap : Bool) (here : Here) (lo : 5 ≤ s.tag) (hi : s.tag ≤ 18) where
   abbrev the : (k : Tag) × (kind_of s.tag ≡ tagged k)
   the = some_tag s.tag lo hi
 
-  abbrev Is : Visit → Type 0
+  abbrev Is : Result Step Refusal → Type 0
   Is r = KindIs text words o v s gap here r
 
-  pub tag_failed : {f : Fault} {c n p : ℕ} {r : Visit} → TagReadIs text words s (R.Failed f) → c ≡ span_count words → n ≡ fault_number (fault_means f) → p ≡ fault_place c s (fault_means f)
-      → r ≡ Vis.Refused (record { number = n; place = p }) → Is r
+  pub tag_failed : {f : Fault} {c p : ℕ} {n : Reason} → TagReadIs text words s (Err f) → c ≡ span_count words → reason_number n ≡ fault_number (fault_means f) → p ≡ fault_place c s (fault_means f)
+      → Is (Err (record { reason = n; place = p }))
   unfolding walk_tag
-  tag_failed h c n p e = kind_refused text words o v s here e (λ st u. rw (the.1, h.means the.0 the.1) (cc (c, n, p)))
+  tag_failed h c n p = record { means = λ st u. rw (the.1, h.means the.0 the.1) (cc (c, n, p)) }
 
-  module _ {x : TagExpression} (h : TagReadIs text words s (R.Done x)) where
+  module _ {x : TagExpression} (h : TagReadIs text words s (Ok x)) where
     reads : TagDone text words (read_tag text the.0 s (spans_from words (s.number + 1))) s.end (s.number + 1) x
     reads = h.means the.0 the.1
 
-    module _ {end : AsName} (named : NamesIs x.name end) {n : ℕ} (asked : RefusalIs text s.tag v.count v.name end n) where
+    module _ {end : AsName} (named : NamesIs x.name end) {n : Option Reason} (asked : RefusalIs text s.tag v.count v.name end n) where
       asked_as : {st : State} → Visited text v s gap here st → n ≡ refusal_of the.0 st (tag_means text words s.end x)
       asked_as {st} u = asked.means the.0 st (tag_means text words s.end x) the.1 u.tells.count (record { opens = u.tells.name; closes = named.means text words ∙ reads.name })
 
       -- what is asked of a tag that has read its expression
-      walks_tag : (st : State) (n : ℕ) → n ≡ refusal_of the.0 st (tag_means text words s.end x) → (n ≡ 0 → ⊥)
-          → walk_kind text words o.prevent_indent o.is_partial (kind_of s.tag) st s (spans_from words (s.number + 1)) ≡ refused n s.number
+      walks_tag : (st : State) (r : Reason) → Some r ≡ refusal_of the.0 st (tag_means text words s.end x)
+          → walk_kind text words o.prevent_indent o.is_partial (kind_of s.tag) st s (spans_from words (s.number + 1)) ≡ refused (reason_number r) s.number
       unfolding walk_tag
-      walks_tag st n e f = rw (the.1, reads.reads) (go (too_many_open the.0 st) (helper_name_differs the.0 st (tag_means text words s.end x)) (decorator_name_differs the.0 st (tag_means text words s.end x)) _ e)
+      walks_tag st r e = rw (the.1, reads.reads) (go (too_many_open the.0 st) (helper_name_differs the.0 st (tag_means text words s.end x)) (decorator_name_differs the.0 st (tag_means text words s.end x)) _ e)
         where
-          go : (a b c : Bool) (y : State × List Span) → n ≡ if a 12 (if b 10 (if c 11 0))
-              → and_then (refuse_if a 12 s.number) (λ _. and_then (refuse_if b 10 s.number) (λ _. and_then (refuse_if c 11 s.number) (λ _. accepted y))) ≡ refused n s.number
-          go true b c y e = ap (λ z. refused z s.number) (sym e)
-          go false true c y e = ap (λ z. refused z s.number) (sym e)
-          go false false true y e = ap (λ z. refused z s.number) (sym e)
-          go false false false y e = absurd (f e)
+          as_number : {q : Reason} → Some r ≡ Some q → ◌≡◌ {A = spec.Result (State × List Span)} (refused (reason_number q) s.number) (refused (reason_number r) s.number)
+          as_number {q} e = let z : r ≡ q = cc in ap (λ i. refused (reason_number i) s.number) (sym z)
 
-      pub tag_refused : {r : Visit} → (n ≡ 0 → ⊥) → r ≡ Vis.Refused (record { number = n; place = s.number }) → Is r
-      tag_refused f e = kind_refused text words o v s here e (λ st u. walks_tag st n (asked_as u) f)
+          go : (a b c : Bool) (y : State × List Span) → Some r ≡ (if a (Some R.OverLimit) (if b (Some R.HelperName) (if c (Some R.DecoratorName) None)))
+              → and_then (refuse_if a 12 s.number) (λ _. and_then (refuse_if b 10 s.number) (λ _. and_then (refuse_if c 11 s.number) (λ _. accepted y))) ≡ refused (reason_number r) s.number
+          go true b c y e = as_number e
+          go false true c y e = as_number e
+          go false false true y e = as_number e
+          go false false false y e = let z : ◌≡◌ {A = ℕ} 0 1 = cc in absurd (omega (arith, z))
 
-      none_of : (st : State) → n ≡ 0 → n ≡ refusal_of the.0 st (tag_means text words s.end x)
+      pub tag_refused : {r : Reason} → n ≡ Some r → Is (Err (record { reason = r; place = s.number }))
+      tag_refused {r} e = record { means = λ st u. walks_tag st r (sym e ∙ asked_as u) }
+
+      none_of : (st : State) → None ≡ refusal_of the.0 st (tag_means text words s.end x)
           → (too_many_open the.0 st ≡ false) × (helper_name_differs the.0 st (tag_means text words s.end x) ≡ false) × (decorator_name_differs the.0 st (tag_means text words s.end x) ≡ false)
-      none_of st z e = go (too_many_open the.0 st) (helper_name_differs the.0 st (tag_means text words s.end x)) (decorator_name_differs the.0 st (tag_means text words s.end x)) (sym z ∙ e)
+      none_of st e = go (too_many_open the.0 st) (helper_name_differs the.0 st (tag_means text words s.end x)) (decorator_name_differs the.0 st (tag_means text words s.end x)) e
         where
-          go : (a b c : Bool) → ◌≡◌ {A = ℕ} 0 (if a 12 (if b 10 (if c 11 0))) → (a ≡ false) × (b ≡ false) × (c ≡ false)
-          go true b c e = absurd (omega arith)
-          go false true c e = absurd (omega arith)
-          go false false true e = absurd (omega arith)
+          some_none : {q : Reason} {P : Type 0} → None ≡ Some q → P
+          some_none e = let z : ◌≡◌ {A = ℕ} 0 1 = cc in absurd (omega (arith, z))
+
+          go : (a b c : Bool) → None ≡ (if a (Some R.OverLimit) (if b (Some R.HelperName) (if c (Some R.DecoratorName) None))) → (a ≡ false) × (b ≡ false) × (c ≡ false)
+          go true b c e = some_none e
+          go false true c e = some_none e
+          go false false true e = some_none e
           go false false false e = (refl, refl, refl)
 
-      steps : {p : Step} → n ≡ 0 → TagMakes text words o v s x gap here p → Is (Vis.Step p)
+      pub tag_steps : {p : Step} → n ≡ None → TagMakes text words o v s x gap here p → Is (Ok p)
       unfolding walk_tag
-      steps {p} z t = record {
+      tag_steps {p} z t = record {
         means = λ st u.
-            let f = none_of st z (asked_as u) in
+            let f = none_of st (sym z ∙ asked_as u) in
             record {
               makes = rw (the.1, reads.reads, f.0, f.1, f.2) (cc (t.makes the.0 st the.1 u, t.next));
               gap = t.gap_made st u;
               act = t.allowed the.0 st the.1 u f.0 reads.name;
-              gapless = λ w r. t.gapped ∙ tag_gapless the.0 gap st (subst (λ k. nests k gap st ≡ true) the.1 u.nested) w r;
+              gapless = λ w r. is_none (t.gapped ∙ tag_gapless the.0 gap st (subst (λ k. nests k gap st ≡ true) the.1 u.nested) w r);
               here = t.placed st u;
               previous = t.previous st;
               onward = omega (arith, reads.onward, t.next);
             };
       }
 
-      pub tag_steps : (r : Visit) → n ≡ 0 → TagStepIs text words o v s x gap here r → Is r
-      tag_steps (Vis.Refused f) z t = absurd t.means
-      tag_steps Vis.End z t = absurd t.means
-      tag_steps (Vis.Step p) z t = steps z t.means
-
 -- ---- 12, 10 and 11
 
 module _ (text : Bytes) (t c : ℕ) (opened end : AsName) {b : Bool} (over : TooManyIs t c b) where
-  pub refusal_12 : b ≡ true → RefusalIs text t c opened end 12
+  pub refusal_12 : b ≡ true → RefusalIs text t c opened end (Some R.OverLimit)
   refusal_12 q = record { means = λ k st x e n a. rw (← over.means k st e n, q) }
 
   module _ (few : b ≡ false) {h : Bool} (helper : HelperDiffersIs text t opened end h) where
-    pub refusal_10 : h ≡ true → RefusalIs text t c opened end 10
+    pub refusal_10 : h ≡ true → RefusalIs text t c opened end (Some R.HelperName)
     refusal_10 q = record { means = λ k st x e n a. rw (← over.means k st e n, few, ← helper.means k st x e a, q) }
 
     module _ (same : h ≡ false) {d : Bool} (decorator : DecoratorDiffersIs text t opened end d) where
-      pub refusal_11 : d ≡ true → RefusalIs text t c opened end 11
+      pub refusal_11 : d ≡ true → RefusalIs text t c opened end (Some R.DecoratorName)
       refusal_11 q = record { means = λ k st x e n a. rw (← over.means k st e n, few, ← helper.means k st x e a, same, ← decorator.means k st x e a, q) }
 
-      pub refusal_none : d ≡ false → RefusalIs text t c opened end 0
+      pub refusal_none : d ≡ false → RefusalIs text t c opened end None
       refusal_none q = record { means = λ k st x e n a. rw (← over.means k st e n, few, ← helper.means k st x e a, same, ← decorator.means k st x e a, q) }
 
 -- ---- the visit
 
 module _ (text : Bytes) (words : List ℕ) (o : Options) (v : View) (at : ℕ) where
-  abbrev Visits : Visit → Type 0
+  abbrev Visits : Result (Option Step) Refusal → Type 0
   Visits r = VisitIs text words o v at r
 
-  pub visit_end : spans_from words at ≡ [] → Visits Vis.End
+  pub visit_end : spans_from words at ≡ [] → Visits (Ok None)
   visit_end e = record { means = λ st t. e }
 
   module _ {s : Span} (w : Walked words at s) where
-    refused_as : {n p : ℕ} {r : Visit} → r ≡ Vis.Refused (record { number = n; place = p })
-        → ((st : State) → Tells text v st → walk_span text words o.prevent_indent o.is_partial st s (spans_from words (s.number + 1)) ≡ refused n p) → Visits r
-    refused_as {n} {p} e f = subst (λ z. Visits z) (sym e)
-        (record { means = λ st t. ap (walk text words o.prevent_indent o.is_partial st) w.first ∙ walk_stop text words o.prevent_indent o.is_partial st s _ n p (f st t) })
+    refused_as : {f : Refusal}
+        → ((st : State) → Tells text v st → walk_span text words o.prevent_indent o.is_partial st s (spans_from words (s.number + 1)) ≡ refused (reason_number f.reason) f.place) → Visits (Err f)
+    refused_as {f} e =
+        record { means = λ st t. ap (walk text words o.prevent_indent o.is_partial st) w.first ∙ walk_stop text words o.prevent_indent o.is_partial st s _ (reason_number f.reason) f.place (e st t) }
 
-    pub visit_early : {r : Visit} → s.start < v.marks.end_pos → r ≡ Vis.Refused (record { number = 6; place = s.number }) → Visits r
+    pub visit_early : s.start < v.marks.end_pos → Visits (Err (record { reason = R.OutOfOrder; place = s.number }))
     unfolding walk_span
-    visit_early h e = refused_as e (λ st t. rw (lt-ltb s.start (prev_end st) (omega (arith, h, t.marks.previous))))
+    visit_early h = refused_as (λ st t. rw (lt-ltb s.start (prev_end st) (omega (arith, h, t.marks.previous))))
 
     module _ (late : v.marks.end_pos ≤ s.start) {gap : Bool} (kept : KeptIs v.marks s gap)
         {b : Bool} (nest : NestsIs v.marks.stage v.opened v.inverted s.tag gap b) where
@@ -198,9 +205,9 @@ module _ (text : Bytes) (words : List ℕ) (o : Options) (v : View) (at : ℕ) w
       nests_as : {st : State} → Tells text v st → b ≡ nests (kind_of s.tag) (kept_gap st s) st
       nests_as {st} t = nest.means st t.marks.stage t.opened ∙ ap (λ z. nests (kind_of s.tag) z st) (kept.means st t.marks)
 
-      pub visit_out : {r : Visit} → not b ≡ true → r ≡ Vis.Refused (record { number = 7; place = s.number }) → Visits r
+      pub visit_out : not b ≡ true → Visits (Err (record { reason = R.BadNesting; place = s.number }))
       unfolding walk_span
-      visit_out q e = refused_as e (λ st t. rw (not_early t, ← nests_as t, q))
+      visit_out q = refused_as (λ st t. rw (not_early t, ← nests_as t, q))
 
       module _ (good : Good text words) (inner : not b ≡ false) {here : Here} (adv : AdvanceIs text v.here s.start here) where
         visited : {st : State} → Tells text v st → Visited text v s gap here st
@@ -233,7 +240,8 @@ module _ (text : Bytes) (words : List ℕ) (o : Options) (v : View) (at : ℕ) w
           inside = omega (arith, w.from, w.inside);
         }
 
-        pub visit_kind : (r : Visit) → KindIs text words o v s gap here r → Visits r
-        visit_kind (Vis.Refused f) k = record { means = λ st t. ap (walk text words o.prevent_indent o.is_partial st) w.first ∙ walk_stop text words o.prevent_indent o.is_partial st s _ f.number f.place (walks t ∙ k.means st (visited t)) }
-        visit_kind Vis.End k = record { means = λ st t. absurd (k.means st (visited t)) }
-        visit_kind (Vis.Step p) k = record { means = λ st t. step_of p t (k.means st (visited t)) }
+        pub kind_refused : {f : Refusal} → KindIs text words o v s gap here (Err f) → Visits (Err f)
+        kind_refused k = refused_as (λ st t. walks t ∙ k.means st (visited t))
+
+        pub kind_steps : {p : Step} → KindIs text words o v s gap here (Ok p) → Visits (Ok (Some p))
+        kind_steps {p} k = record { means = λ st t. step_of p t (k.means st (visited t)) }

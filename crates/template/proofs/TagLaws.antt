@@ -4,6 +4,7 @@ use native.Mathlib.Omega.{arith}
 use mathlib.Core.Path.{◌≡◌, refl, subst, ◌∙◌}
 use mathlib.Core.List.{List}
 use mathlib.Core.Bool.{Bool, true, false, ◌||◌}
+use Rattle.std.specs.Prelude.{Result, Ok, Err}
 use Rattle.support.specs.Bytes.{Bytes}
 use Rattle.json_path.specs.Span.{Span, spans_from}
 use Rattle.expression.specs.Expression.{Param, Expression}
@@ -21,8 +22,7 @@ use Rattle.expression.proofs.Judged.{expression_again}
 use Rattle.template.specs.Kind.{Tag, block_start, invert_tag, invert_chain_tag, expression, html_expression, decorator_expression, partial_expression, block_end, tagged, kinds, kind_of}
 use Rattle.template.specs.TagExpression.{with_omit_pre_ws, read_own, read_chain, read_tag}
 use Rattle.template.specs.TagRead.{TagReadMeans, OwnReadIs, TagReadIs}
-use Rattle.template.specs.declared.tag.TagRead.{TagRead}
-use Rattle.template.specs.declared.tag.TagRead.TheVariants as R
+use Rattle.template.specs.declared.tag.TagExpression.{TagExpression}
 use Rattle.template.proofs.TagKinds.{chain_tag}
 
 module _ (text : Bytes) (words : List ℕ) (from limit : ℕ) (left : Bool) where
@@ -30,7 +30,7 @@ module _ (text : Bytes) (words : List ℕ) (from limit : ℕ) (left : Bool) wher
   read = read_expression true text max_subexpressions limit (spans_from words from)
 
   pub own_done : {x : ExpressionSpec} {p : Bool} → ExpressionIs text words read from (ExpressionRead.Done x) → p ≡ (left || x.omit_pre_ws)
-      → OwnReadIs text words from limit left (R.Done (record { omit_pre_ws = p; omit_pro_ws = x.omit_pro_ws; name = x.name; from = from; next = x.next }))
+      → OwnReadIs text words from limit left (Ok (record { omit_pre_ws = p; omit_pro_ws = x.omit_pro_ws; name = x.name; from = from; next = x.next }))
   unfolding expression_means
   own_done {x} {p} h e =
       let again = expression_again true text max_subexpressions limit (spans_from words from) h.reads in
@@ -42,7 +42,7 @@ module _ (text : Bytes) (words : List ℕ) (from limit : ℕ) (left : Bool) wher
         };
       }
 
-  pub own_failed : {f : Fault} → read ≡ failed (fault_means f) → OwnReadIs text words from limit left (R.Failed f)
+  pub own_failed : {f : Fault} → read ≡ failed (fault_means f) → OwnReadIs text words from limit left (Err f)
   own_failed e = record { means = rw e }
 
 module _ (text : Bytes) (words : List ℕ) (s : Span) where
@@ -50,7 +50,7 @@ module _ (text : Bytes) (words : List ℕ) (s : Span) where
   chain = read_chain text s (spans_from words (s.number + 1))
 
   -- tag 10 is no other tag
-  chain_is : {r : TagRead} → s.tag ≡ 10 → TagReadMeans text words chain s.end (s.number + 1) r → TagReadIs text words s r
+  chain_is : {r : Result TagExpression Fault} → s.tag ≡ 10 → TagReadMeans text words chain s.end (s.number + 1) r → TagReadIs text words s r
   unfolding kinds
   chain_is {r} e h = record {
     means = λ k f.
@@ -59,7 +59,7 @@ module _ (text : Bytes) (words : List ℕ) (s : Span) where
         subst (λ j. TagReadMeans text words (read_tag text j s (spans_from words (s.number + 1))) s.end (s.number + 1) r) i h;
   }
 
-  pub chain_ended : TildeIs words (s.number + 1) TildeRead.Ended → s.tag ≡ 10 → TagReadIs text words s (R.Failed Ended)
+  pub chain_ended : TildeIs words (s.number + 1) TildeRead.Ended → s.tag ≡ 10 → TagReadIs text words s (Err Ended)
   unfolding read_chain
   chain_ended t e = chain_is e (rw t.reads)
 
@@ -67,7 +67,7 @@ module _ (text : Bytes) (words : List ℕ) (s : Span) where
     abbrev name : Read Param
     name = read_name true text max_subexpressions (spans_from words at)
 
-    pub chain_no_name : {f : Fault} → name ≡ failed (fault_means f) → s.tag ≡ 10 → TagReadIs text words s (R.Failed f)
+    pub chain_no_name : {f : Fault} → name ≡ failed (fault_means f) → s.tag ≡ 10 → TagReadIs text words s (Err f)
     unfolding read_chain
     chain_no_name n e = chain_is e (rw (t.reads, n))
 
@@ -76,13 +76,13 @@ module _ (text : Bytes) (words : List ℕ) (s : Span) where
       unfolding read_chain
       chain_reads = rw (t.reads, n.reads)
 
-      pub chain_own : (r : TagRead) → OwnReadIs text words next s.end left r → s.tag ≡ 10 → TagReadIs text words s r
-      chain_own (R.Done x) h e =
+      pub chain_own : (r : Result TagExpression Fault) → OwnReadIs text words next s.end left r → s.tag ≡ 10 → TagReadIs text words s r
+      chain_own (Ok x) h e =
           let d = h.means in
           let i = t.onward in
           let j = n.onward in
           chain_is e (record { reads = chain_reads ∙ d.reads; name = d.name; onward = omega (arith, d.onward) })
-      chain_own (R.Failed f) h e = chain_is e (chain_reads ∙ h.means)
+      chain_own (Err f) h e = chain_is e (chain_reads ∙ h.means)
 
   -- any other tag reads its own expression
   other_own : (k : Tag) → (s.tag ≡ 10 → ⊥) → kind_of s.tag ≡ tagged k → (o : Read Expression → Type 0) → o (read_own text s (spans_from words (s.number + 1))) → o (read_tag text k s (spans_from words (s.number + 1)))
@@ -99,7 +99,7 @@ module _ (text : Bytes) (words : List ℕ) (s : Span) where
   as_it_is (done x r) = refl
   as_it_is (failed e) = refl
 
-  pub tag_own : (r : TagRead) → (s.tag ≡ 10 → ⊥) → OwnReadIs text words (s.number + 1) s.end false r → TagReadIs text words s r
+  pub tag_own : (r : Result TagExpression Fault) → (s.tag ≡ 10 → ⊥) → OwnReadIs text words (s.number + 1) s.end false r → TagReadIs text words s r
   tag_own r n h = record {
     means = λ k e. other_own k n e (λ o. TagReadMeans text words o s.end (s.number + 1) r)
         (subst (λ o. TagReadMeans text words o s.end (s.number + 1) r) (as_it_is (read_own text s (spans_from words (s.number + 1)))) h.means);

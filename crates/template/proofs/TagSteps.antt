@@ -7,6 +7,8 @@ use mathlib.Core.Bool.{Bool, true, false, ◌&&◌, ◌||◌, not}
 use mathlib.Core.Option.{Option, none, some}
 use lib.ListN.{take}
 use borrow.Author.Tests.{ltb-false}
+use Rattle.std.specs.Prelude.{Some, None, is_some}
+use Rattle.std.specs.declared.option.Option as rattle
 use Rattle.support.specs.Bytes.{Bytes, if}
 use Rattle.support.specs.WhiteSpace.{trim_end}
 use Rattle.support.specs.TextRules.{trim_end_blanks, trailing_blanks}
@@ -25,10 +27,10 @@ use Rattle.template.specs.State.{Level, level, State, state, owner_of, owner, op
 use Rattle.template.specs.Nests.{is_filling, is_of_kind, tag_nests, nests}
 use Rattle.template.specs.Refusal.{max_open, one_too_many, too_many_open}
 use Rattle.template.specs.Step.{any_blanks, after_gap, take_gap, remove_previous_whitespace, process_standalone, standalone, indent, owner_for, standalone_of, tag_trims, tag_effect, tag_step}
-use Rattle.template.specs.Element.{back_trim, call_at, block_at, indent_means, item_means, head_means, wrap_means, new_element, named_element}
+use Rattle.template.specs.Element.{back_trim, call_at, block_at, blanks_before, indent_means, item_means, head_means, wrap_means, named_element}
 use Rattle.template.specs.TagRead.{tag_means}
 use Rattle.template.specs.Visit.{stage_means, end_means, with_marks, leaf_means, gap_effect, trim_effect, act_effect, applied, Allowed}
-use Rattle.template.specs.Visiting.{Visited, TagMakes, gap_text, trim_of, cut_of, line_of, stage_behind, helper_of, decorator_of, element_for, act_for, indent_of, CutIs, LineIs, StageIs, ElementIs, ActIs, IndentIs, TagStepIs}
+use Rattle.template.specs.Visiting.{Visited, TagMakes, gap_element, trim_of, cut_of, line_of, stage_behind, helper_of, decorator_of, element_for, act_for, indent_of, CutIs, LineIs, StageIs, ElementIs, ActIs, IndentIs}
 use Rattle.template.specs.declared.element.Back.{Back}
 use Rattle.template.specs.declared.element.TemplateElement.{TemplateElement}
 use Rattle.template.specs.declared.element.TemplateElement.TheVariants as E
@@ -42,8 +44,6 @@ use Rattle.template.specs.declared.visit.Here.{Here}
 use Rattle.template.specs.declared.visit.View.{View}
 use Rattle.template.specs.declared.visit.Act.{Act}
 use Rattle.template.specs.declared.visit.Step.{Step}
-use Rattle.template.specs.declared.visit.Visit.{Visit}
-use Rattle.template.specs.declared.visit.Visit.TheVariants as Vis
 use Rattle.template.proofs.LastText.{trims}
 use Rattle.template.proofs.GapLaws.{and_yes, place_some, made, state_as}
 use Rattle.template.proofs.VisitLaws.{marks_behind, placed, filling, none_waits, processed, behind, made_gap}
@@ -149,13 +149,13 @@ module _ (text : Bytes) (words : List ℕ) (prevent is_partial : Bool) (s : Span
   read = tag_means text words s.end x
 
   no_indent : ind ≡ false → none ≡ indent_means text words (decorator_of x s mark ind)
-  no_indent i = ap (λ b. if b (any_blanks (trailing_blanks (take s.start text))) none) (sym i)
+  no_indent i = ap (λ b. blanks_before text words (if b (Some s.start) None)) (sym i)
 
   indent_as : ind ≡ (not prevent && not x.omit_pre_ws) → indent text prevent s read ≡ indent_means text words (decorator_of x s mark ind)
   unfolding indent
-  indent_as i = go prevent x.omit_pre_ws ∙ ap (λ b. if b (any_blanks (trailing_blanks (take s.start text))) none) (sym i)
+  indent_as i = go prevent x.omit_pre_ws ∙ ap (λ b. blanks_before text words (if b (Some s.start) None)) (sym i)
     where
-      go : (a b : Bool) → (if (a || b) none (any_blanks (trailing_blanks (take s.start text)))) ≡ if (not a && not b) (any_blanks (trailing_blanks (take s.start text))) none
+      go : (a b : Bool) → (if (a || b) none (any_blanks (trailing_blanks (take s.start text)))) ≡ blanks_before text words (if (not a && not b) (Some s.start) None)
       go true b = refl
       go false true = refl
       go false false = refl
@@ -183,19 +183,23 @@ module _ (text : Bytes) (words : List ℕ) (prevent is_partial : Bool) (s : Span
 
 -- ---- the step
 
+kept : {A : Type 0} (a : A) (b : Bool) → is_some (if b (Some a) None) ≡ b
+kept a true = refl
+kept a false = refl
+
 module _ (text : Bytes) (words : List ℕ) (o : Options) (v : View) (s : Span) (here : Here) (x : TagExpression) where
   abbrev marks : Marks
   marks = v.marks
 
-  gap_state : (gap : Bool) (e : Element) (b : Back) (st : State)
-      → trim_effect text words b (gap_effect text words gap e st)
-      ≡ state st.stage (trim_last (back_trim b) (gap_effect text words gap e st).top) st.outer st.end_pos st.omit_pro_ws st.trim_line_required
-  gap_state true e b st = refl
-  gap_state false e b st = refl
+  gap_state : (e : rattle.Option Element) (b : Back) (st : State)
+      → trim_effect text words b (gap_effect text words e st)
+      ≡ state st.stage (trim_last (back_trim b) (gap_effect text words e st).top) st.outer st.end_pos st.omit_pro_ws st.trim_line_required
+  gap_state (Some e) b st = refl
+  gap_state None b st = refl
 
-  gap_owner : (gap : Bool) (e : Element) (st : State) → owner_of (gap_effect text words gap e st).top ≡ owner st
-  gap_owner true e st = add_owner (leaf_means text words e) st.top
-  gap_owner false e st = refl
+  gap_owner : (e : rattle.Option Element) (st : State) → owner_of (gap_effect text words e st).top ≡ owner st
+  gap_owner (Some e) st = add_owner (leaf_means text words e) st.top
+  gap_owner None st = refl
 
   still_filling : (gap : Bool) {g h : S.Stage} → g ≡ if gap (after_gap h) h → h ≡ S.filling → g ≡ S.filling
   still_filling true e f = e ∙ ap after_gap f
@@ -209,8 +213,8 @@ module _ (text : Bytes) (words : List ℕ) (o : Options) (v : View) (s : Span) (
     unfolding tag_nests
     not_root k e f = root_no_kind k (ap (is_of_kind k) (sym f) ∙ and_left (is_of_kind k (owner st)) _ e)
 
-    ready : (g : Stage) (e : Element) (f : Bytes → Bytes) → stage_means g ≡ if gap (after_gap (stage_means marks.stage)) (stage_means marks.stage)
-        → (k : Tag) → tag_nests k gap st ≡ true → Ready k (stage_means g) (trim_last f (gap_effect text words gap e st).top) st.outer
+    ready : (g : Stage) (e : rattle.Option Element) (f : Bytes → Bytes) → stage_means g ≡ if gap (after_gap (stage_means marks.stage)) (stage_means marks.stage)
+        → (k : Tag) → tag_nests k gap st ≡ true → Ready k (stage_means g) (trim_last f (gap_effect text words e st).top) st.outer
     unfolding tag_nests
     ready g e f i (K.block_start k) n = tt
     ready g e f i K.invert_tag n = tt
@@ -221,7 +225,7 @@ module _ (text : Bytes) (words : List ℕ) (o : Options) (v : View) (s : Span) (
     ready g e f i K.partial_expression n = still_filling gap i (h.tells.marks.stage ∙ filling st.stage n)
     ready g e f i (K.block_end k) n =
         let r = not_root k n in
-        (λ z. r (sym (gap_owner gap e st) ∙ sym (trim_owner f (gap_effect text words gap e st).top) ∙ z), λ z. r (h.tells.outermost z))
+        (λ z. r (sym (gap_owner e st) ∙ sym (trim_owner f (gap_effect text words e st).top) ∙ z), λ z. r (h.tells.outermost z))
 
     fewer : one_too_many st ≡ false → open_count st < max_open
     fewer e = let z = ltb-false max_open (suc (open_count st)) e in omega arith
@@ -241,7 +245,7 @@ module _ (text : Bytes) (words : List ℕ) (o : Options) (v : View) (s : Span) (
     may mark ind K.partial_expression n c q = made text words (E.PartialExpression (decorator_of x s mark ind)) x.name here.place (place_some text s.start h.place) tt
     may mark ind (K.block_end k) n c q = not_root k n
 
-  module _ (g : Stage) (gap : Bool) {l : Bool} {e : Element} (new : e ≡ new_element (E.RawString (gap_text words marks s)) here.place)
+  module _ (g : Stage) (gap : Bool) {l : Bool} {e : rattle.Option Element} (new : e ≡ gap_element words marks s here.place gap)
       (i : stage_means g ≡ if gap (after_gap (stage_means marks.stage)) (stage_means marks.stage)) (j : l ≡ (marks.trim_line_required && not gap))
       {alone : Bool} (a : alone ≡ standalone text o.is_partial s)
       {cut : Bool} (c : CutIs s.tag alone o.prevent_indent cut) {b : Back} (d : b ≡ trim_of x.omit_pre_ws cut)
@@ -249,7 +253,7 @@ module _ (text : Bytes) (words : List ℕ) (o : Options) (v : View) (s : Span) (
       {mark ind : Bool} (r : mark ≡ (alone && not x.omit_pre_ws)) (q : IndentIs s.tag o.prevent_indent x.omit_pre_ws ind)
       {y : TemplateElement} (made_of : ElementIs s x mark ind y) {z : Element} (placed-as : z ≡ named_element y x.name here.place) {act : Act} (t : ActIs s.tag z act) where
     abbrev tagged_step : Step
-    tagged_step = record { gapped = gap; gap = e; back = b; act = act; marks = marks_behind sg s.end x.omit_pro_ws line; here = here; next = x.next }
+    tagged_step = record { gap = e; back = b; act = act; marks = marks_behind sg s.end x.omit_pro_ws line; here = here; next = x.next }
 
     act_as : (k : Tag) → kind_of s.tag ≡ tagged k → act ≡ act_for k (named_element (element_for k s x mark ind) x.name here.place)
     act_as k u = t.means k u ∙ ap (act_for k) (placed-as ∙ ap (λ w. named_element w x.name here.place) (made_of.means k u))
@@ -259,7 +263,7 @@ module _ (text : Bytes) (words : List ℕ) (o : Options) (v : View) (s : Span) (
     unfolding tag_step applied
     step_as k st u h =
         let read = tag_means text words s.end x in
-        let t₁ = (gap_effect text words gap e st).top in
+        let t₁ = (gap_effect text words e st).top in
         let back : trim_of x.omit_pre_ws (cut_of k (standalone text o.is_partial s) o.prevent_indent) ≡ b = ap (λ z. trim_of x.omit_pre_ws (cut_of k z o.prevent_indent)) (sym a) ∙ ap (trim_of x.omit_pre_ws) (sym (c.means k u)) ∙ sym d in
         let lines : line_of k (standalone text o.is_partial s) l ≡ line = ap (λ z. line_of k z l) (sym a) ∙ sym (f.means k u) in
         ap (λ z. with_end_pos s.end (tag_effect text o.prevent_indent o.is_partial k s read z))
@@ -269,22 +273,19 @@ module _ (text : Bytes) (words : List ℕ) (o : Options) (v : View) (s : Span) (
         (marks_behind sg s.end x.omit_pro_ws line) s.end refl (stage_means g) st.stage (trim_last (back_trim b) t₁) st.outer st.end_pos st.end_pos st.omit_pro_ws st.trim_line_required
         k (q.means k u) (w.means k u) (ready h g e (back_trim b) i k (nested_as h k u))
         ∙ ap (λ z. with_marks (marks_behind sg s.end x.omit_pro_ws line) (act_effect text words z (state st.stage (trim_last (back_trim b) t₁) st.outer st.end_pos st.omit_pro_ws st.trim_line_required))) (sym (act_as k u))
-        ∙ ap (λ z. with_marks (marks_behind sg s.end x.omit_pro_ws line) (act_effect text words act z)) (sym (gap_state gap e b st))
+        ∙ ap (λ z. with_marks (marks_behind sg s.end x.omit_pro_ws line) (act_effect text words act z)) (sym (gap_state e b st))
 
-    tag_makes : TagMakes text words o v s x gap here tagged_step
+    pub tag_makes : TagMakes text words o v s x gap here tagged_step
     unfolding with_marks
     tag_makes = record {
       makes = step_as;
       gap_made = λ st h. made_gap text words o v s here g gap new i j h;
       allowed = λ k st u h n y. subst (λ z. Allowed text words z st) (sym (act_as k u)) (may h mark ind k (nested_as h k u) n y);
-      gapped = refl;
+      gapped = ap is_some new ∙ kept _ gap;
       placed = λ st h. placed h;
       previous = λ st. refl;
       next = refl;
     }
-
-    pub tag_step_lem : {r : Visit} → r ≡ Vis.Step tagged_step → TagStepIs text words o v s x gap here r
-    tag_step_lem e = subst (λ r. TagStepIs text words o v s x gap here r) (sym e) (record { means = tag_makes })
 
 -- ---- the stage behind a gap
 

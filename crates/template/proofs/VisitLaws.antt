@@ -7,10 +7,13 @@ use mathlib.Core.Bool.{Bool, true, false, ◌&&◌, ◌||◌, not}
 use mathlib.Core.Option.{Option, none, some}
 use lib.Dec.{eqb}
 use borrow.Author.Tests.{eqb-true, eqb-false}
+use Rattle.std.specs.Prelude.{None, Ok, Err}
+use Rattle.std.specs.declared.option.Option as rattle
 use Rattle.support.specs.Bytes.{Bytes, if}
 use Rattle.support.specs.Utf8.{is_char_boundary}
 use Rattle.support.specs.TextRules.{trim_end_blanks, comment_compact_text, comment_text}
 use Rattle.support.specs.Position.{place_at, place_of}
+use Rattle.support.specs.declared.position.Place as code
 use Rattle.json_path.specs.Span.{Span, spans_from, own}
 use Rattle.listing.specs.Tree as T
 use Rattle.listing.specs.Reading.{item}
@@ -23,9 +26,9 @@ use Rattle.template.specs.Nests.{is_filling, plain_nests, nests}
 use Rattle.template.specs.Escapes.{text_start, own_escapes, bad_escapes, faulty_escape, unescaped}
 use Rattle.template.specs.Step.{trim_front, after_gap, take_gap, process_standalone, standalone, raw_string, add_item, add_comment, plain_step}
 use Rattle.template.specs.Walk.{walk_plain, walk_kind}
-use Rattle.template.specs.Element.{raw_means, item_means, leaf, role_of, Sound, no_name, new_element, empty_element}
+use Rattle.template.specs.Element.{raw_means, item_means, leaf, role_of, Sound, no_name, new_element}
 use Rattle.template.specs.Visit.{stage_means, with_marks, MarksAre, HereIs, leaf_means, gap_effect, applied, Made, GapMade}
-use Rattle.template.specs.Visiting.{Visited, KindIs, gap_text, text_element, text_step, raw_front, trim_of}
+use Rattle.template.specs.Visiting.{Visited, KindIs, gap_element, text_element, text_step, raw_front, trim_of}
 use Rattle.template.specs.declared.element.Back.{Back}
 use Rattle.template.specs.declared.element.RawString.{RawString}
 use Rattle.template.specs.declared.element.TemplateElement.TheVariants as E
@@ -39,8 +42,7 @@ use Rattle.template.specs.declared.visit.View.{View}
 use Rattle.template.specs.declared.visit.Act.TheVariants as A
 use Rattle.template.specs.declared.visit.Added.TheVariants as N
 use Rattle.template.specs.declared.visit.Step.{Step}
-use Rattle.template.specs.declared.visit.Visit.{Visit}
-use Rattle.template.specs.declared.visit.Visit.TheVariants as Vis
+use Rattle.template.specs.declared.refusal.Reason.TheVariants as R
 use Rattle.template.proofs.LastText.{trim_kept, trims}
 use Rattle.template.proofs.GapLaws.{and_yes, place_some, made, front_raw, state_as, gap_made_lem, taken, gap_outer}
 
@@ -49,25 +51,9 @@ abbrev pub marks_behind : Stage → ℕ → Bool → Bool → Marks
 marks_behind g e w l = record { stage = g; end_pos = e; started = true; omit_pro_ws = w; trim_line_required = l }
 
 -- a text's step, from its element
-pub text_step_of : (v : View) (s : Span) (here : Here) (start : ℕ) (g : Stage) (l : Bool) {e : Element} {r : Visit}
-    → r ≡ Vis.Step (record {
-      gapped = false;
-      gap = empty_element;
-      back = Back.Kept;
-      act = A.Add e N.Leaf;
-      marks = marks_behind g s.end v.marks.omit_pro_ws l;
-      here = here;
-      next = s.number + 1;
-    }) → e ≡ text_element v s start here.place → r ≡ Vis.Step (text_step v s here start g l)
-text_step_of v s here start g l q e = q ∙ ap (λ z. Vis.Step (record {
-  gapped = false;
-  gap = empty_element;
-  back = Back.Kept;
-  act = A.Add z N.Leaf;
-  marks = marks_behind g s.end v.marks.omit_pro_ws l;
-  here = here;
-  next = s.number + 1;
-})) e
+pub text_step_of : (v : View) (s : Span) (here : Here) (start : ℕ) (g : Stage) (l : Bool) {e : Element} → e ≡ text_element v s start here.place
+    → record { gap = None; back = Back.Kept; act = A.Add e N.Leaf; marks = marks_behind g s.end v.marks.omit_pro_ws l; here = here; next = s.number + 1 } ≡ text_step v s here start g l
+text_step_of v s here start g l e = rw e
 
 -- ---- what every step has
 
@@ -101,6 +87,10 @@ skipped_gapless true st n w = none_waits w (or_no (is_filling st.stage) n)
     or_no false e = e
 skipped_gapless false st n w = refl
 
+-- a gap that is not kept is none
+no_gap : (words : List ℕ) (m : Marks) (s : Span) (p : code.Place) {x : rattle.Option Element} (gap : Bool) → x ≡ gap_element words m s p gap → gap ≡ false → x ≡ None
+no_gap words m s p gap e f = rw (e, f)
+
 -- the standalone test's answer, in a state
 pub processed : (alone cut : Bool) (g : S.Stage) (t : Level) (u : List Level) (e : Option ℕ) (w l : Bool)
     → process_standalone alone cut (state g t u e w l) ≡ state g (if (alone && cut) (trim_last trim_end_blanks t) t) u e w alone
@@ -114,15 +104,6 @@ processed alone cut g t u e w l = go (alone && cut)
 module _ (text : Bytes) (words : List ℕ) (o : Options) (v : View) (s : Span) (here : Here) where
   abbrev m : Marks
   m = v.marks
-
-  -- a refusal
-  pub kind_refused : {gap : Bool} {n p : ℕ} {r : Visit} → r ≡ Vis.Refused (record { number = n; place = p })
-      → ((st : State) → Visited text v s gap here st → walk_kind text words o.prevent_indent o.is_partial (kind_of s.tag) st s (spans_from words (s.number + 1)) ≡ refused n p)
-      → KindIs text words o v s gap here r
-  kind_refused {gap} e f = subst (λ r. KindIs text words o v s gap here r) (sym e) (record { means = f })
-
-  pub kind_as : {gap : Bool} {r q : Visit} → r ≡ q → KindIs text words o v s gap here q → KindIs text words o v s gap here r
-  kind_as {gap} e h = subst (λ r. KindIs text words o v s gap here r) (sym e) h
 
   -- no escape is asked for, and the step is made
   module _ (k : Plain) (e : kind_of s.tag ≡ plain k) where
@@ -138,10 +119,9 @@ module _ (text : Bytes) (words : List ℕ) (o : Options) (v : View) (s : Span) (
 
   -- ---- tag 1
 
-  pub template_step : (gap : Bool) (x : Element) → s.tag ≡ 1
-      → KindIs text words o v s gap here (Vis.Step (record {
-        gapped = false;
-        gap = x;
+  pub template_step : (gap : Bool) → s.tag ≡ 1
+      → KindIs text words o v s gap here (Ok (record {
+        gap = None;
         back = Back.Kept;
         act = A.Skip;
         marks = record { stage = G.Filling; end_pos = m.end_pos; started = m.started; omit_pro_ws = m.omit_pro_ws; trim_line_required = m.trim_line_required };
@@ -149,7 +129,7 @@ module _ (text : Bytes) (words : List ℕ) (o : Options) (v : View) (s : Span) (
         next = s.number + 1;
       }))
   unfolding K.kinds plain_step applied with_marks
-  template_step gap x e = record {
+  template_step gap e = record {
     means = λ st h.
         let t = h.tells in
         let a = t.marks in
@@ -166,17 +146,16 @@ module _ (text : Bytes) (words : List ℕ) (o : Options) (v : View) (s : Span) (
 
   -- ---- skipped
 
-  module _ (g : Stage) (gap : Bool) {l : Bool} {x : Element} (new : x ≡ new_element (E.RawString (gap_text words m s)) here.place)
+  module _ (g : Stage) (gap : Bool) {l : Bool} {x : rattle.Option Element} (new : x ≡ gap_element words m s here.place gap)
       (i : stage_means g ≡ if gap (after_gap (stage_means m.stage)) (stage_means m.stage)) (j : l ≡ (m.trim_line_required && not gap)) where
-    pub behind : {st : State} → Visited text v s gap here st → take_gap text s st ≡ state (stage_means g) (gap_effect text words gap x st).top st.outer st.end_pos st.omit_pro_ws l
-    behind h = taken text words s h.tells.marks new h.place g gap h.kept i j
+    pub behind : {st : State} → Visited text v s gap here st → take_gap text s st ≡ state (stage_means g) (gap_effect text words x st).top st.outer st.end_pos st.omit_pro_ws l
+    behind h = taken text words s h.tells.marks h.place g gap new h.kept i j
 
-    pub made_gap : {st : State} → Visited text v s gap here st → GapMade text words gap x
-    made_gap h = gap_made_lem text words s h.tells.marks new h.place gap h.fits h.tells.here h.early
+    pub made_gap : {st : State} → Visited text v s gap here st → GapMade text words x
+    made_gap h = gap_made_lem text words s h.tells.marks h.place gap new h.fits h.tells.here h.early
 
     pub skipped_step : kind_of s.tag ≡ plain K.skipped
-        → KindIs text words o v s gap here (Vis.Step (record {
-          gapped = gap;
+        → KindIs text words o v s gap here (Ok (record {
           gap = x;
           back = Back.Kept;
           act = A.Skip;
@@ -188,10 +167,10 @@ module _ (text : Bytes) (words : List ℕ) (o : Options) (v : View) (s : Span) (
     skipped_step e = record {
       means = λ st h. record {
         makes = plain_makes K.skipped e st refl (ap (with_end_pos s.end) (behind h)
-            ∙ state_as refl (sym (trim_kept (gap_effect text words gap x st).top)) (sym (gap_outer text words gap x st)) refl (sym h.tells.marks.omit_pro_ws) refl);
+            ∙ state_as refl (sym (trim_kept (gap_effect text words x st).top)) (sym (gap_outer text words x st)) refl (sym h.tells.marks.omit_pro_ws) refl);
         gap = made_gap h;
         act = tt;
-        gapless = λ w r. skipped_gapless gap st (subst (λ k. nests k gap st ≡ true) e h.nested) w;
+        gapless = λ w r. no_gap words m s here.place gap new (skipped_gapless gap st (subst (λ k. nests k gap st ≡ true) e h.nested) w);
         here = placed h;
         previous = refl;
         onward = omega arith;
@@ -202,25 +181,25 @@ module _ (text : Bytes) (words : List ℕ) (o : Options) (v : View) (s : Span) (
 
     module _ {alone : Bool} (a : alone ≡ standalone text o.is_partial s) (y : Element) where
       abbrev comment_step : Step
-      comment_step = record { gapped = gap; gap = x; back = trim_of false alone; act = A.Add y N.Leaf; marks = marks_behind g s.end m.omit_pro_ws alone; here = here; next = s.number + 1 }
+      comment_step = record { gap = x; back = trim_of false alone; act = A.Add y N.Leaf; marks = marks_behind g s.end m.omit_pro_ws alone; here = here; next = s.number + 1 }
 
       comment_as : (t : Bytes) {st : State} → Visited text v s gap here st → leaf_means text words y ≡ item (place_at text s.start) (T.comment t)
           → with_end_pos s.end (add_comment text o.is_partial t st s) ≡ applied text words comment_step st
       unfolding add_comment applied with_marks
       comment_as t {st} h q =
-          let t₁ = (gap_effect text words gap x st).top in
+          let t₁ = (gap_effect text words x st).top in
           ap (λ z. with_end_pos s.end (add_item text s (T.comment t) (process_standalone (standalone text o.is_partial s) true z))) (behind h)
           ∙ ap (λ z. with_end_pos s.end (add_item text s (T.comment t) z)) (processed (standalone text o.is_partial s) true (stage_means g) t₁ st.outer st.end_pos st.omit_pro_ws l)
           ∙ state_as refl
           (ap (λ z. add_to z (if (standalone text o.is_partial s && true) (trim_last trim_end_blanks t₁) t₁)) (sym q)
           ∙ ap (λ z. add_to (leaf_means text words y) (if z (trim_last trim_end_blanks t₁) t₁)) (and_yes (standalone text o.is_partial s) ∙ sym a)
           ∙ ap (add_to (leaf_means text words y)) (trims false alone t₁))
-          (sym (gap_outer text words gap x st)) refl (sym h.tells.marks.omit_pro_ws) (sym a)
+          (sym (gap_outer text words x st)) refl (sym h.tells.marks.omit_pro_ws) (sym a)
 
       comment_is : (k : Plain) (t : Bytes) → kind_of s.tag ≡ plain k → ((st : State) → plain_nests k gap st ≡ is_filling st.stage) → ((st : State) → faulty_escape text words k st s ≡ false)
           → ((st : State) → plain_step text words o.is_partial k st s ≡ with_end_pos s.end (add_comment text o.is_partial t st s))
           → item_means text words y.element ≡ T.comment t → y ≡ new_element y.element here.place → role_of y.element ≡ leaf → Sound text words y.name y.element
-          → KindIs text words o v s gap here (Vis.Step comment_step)
+          → KindIs text words o v s gap here (Ok comment_step)
       unfolding with_marks
       comment_is k t e i f p q n r u = record {
         means = λ st h.
@@ -239,10 +218,10 @@ module _ (text : Bytes) (words : List ℕ) (o : Options) (v : View) (s : Span) (
 
       pub comment_step_lem : (compact : Bool) {b : Back} → b ≡ trim_of false alone → 19 ≤ s.tag → s.tag ≤ 20 → compact ≡ eqb s.tag 19
           → y ≡ new_element (E.Comment (record { start = s.start; end = s.end; compact = compact })) here.place
-          → KindIs text words o v s gap here (Vis.Step (record { gapped = gap; gap = x; back = b; act = A.Add y N.Leaf; marks = marks_behind g s.end m.omit_pro_ws alone; here = here; next = s.number + 1 }))
+          → KindIs text words o v s gap here (Ok (record { gap = x; back = b; act = A.Add y N.Leaf; marks = marks_behind g s.end m.omit_pro_ws alone; here = here; next = s.number + 1 }))
       unfolding K.kinds plain_nests plain_step item_means
       comment_step_lem compact d lo hi c n =
-          subst (λ z. KindIs text words o v s gap here (Vis.Step (record { gapped = gap; gap = x; back = z; act = A.Add y N.Leaf; marks = marks_behind g s.end m.omit_pro_ws alone; here = here; next = s.number + 1 }))) (sym d)
+          subst (λ z. KindIs text words o v s gap here (Ok (record { gap = x; back = z; act = A.Add y N.Leaf; marks = marks_behind g s.end m.omit_pro_ws alone; here = here; next = s.number + 1 }))) (sym d)
           (go (eqb s.tag 19) refl)
         where
           element : y.element ≡ E.Comment (record { start = s.start; end = s.end; compact = compact })
@@ -251,7 +230,7 @@ module _ (text : Bytes) (words : List ℕ) (o : Options) (v : View) (s : Span) (
           as_new : y ≡ new_element y.element here.place
           as_new = n ∙ ap (λ z. new_element z here.place) (sym element)
 
-          go : (b : Bool) → eqb s.tag 19 ≡ b → KindIs text words o v s gap here (Vis.Step comment_step)
+          go : (b : Bool) → eqb s.tag 19 ≡ b → KindIs text words o v s gap here (Ok comment_step)
           go true e = comment_is K.comment_compact (comment_compact_text (own text s)) (ap kind_of (eqb-true s.tag 19 e)) (λ st. refl) (λ st. refl) (λ st. refl)
               (rw (element, c, e)) as_new (ap role_of element) (subst (λ z. Sound text words y.name z) (sym element) tt)
           go false e =
@@ -284,7 +263,7 @@ module _ (text : Bytes) (words : List ℕ) (o : Options) (v : View) (s : Span) (
         (record { order = a; inside = h.fits.inside; starts = b; ends = h.fits.ends; escapes = c })
 
     pub text_step_lem : {gap : Bool} → s.tag ≡ 2 → start ≡ m.end_pos → bad_escapes text start (own_escapes words s) ≡ false
-        → KindIs text words o v s gap here (Vis.Step (text_step v s here start G.Filling false))
+        → KindIs text words o v s gap here (Ok (text_step v s here start G.Filling false))
     unfolding K.kinds plain_nests plain_step applied with_marks
     text_step_lem {gap} e b c = record {
       means = λ st h.
@@ -303,7 +282,7 @@ module _ (text : Bytes) (words : List ℕ) (o : Options) (v : View) (s : Span) (
     }
 
     pub raw_step : {gap : Bool} → s.tag ≡ 3 → start ≡ s.start → bad_escapes text start (own_escapes words s) ≡ false
-        → KindIs text words o v s gap here (Vis.Step (text_step v s here start G.Full m.trim_line_required))
+        → KindIs text words o v s gap here (Ok (text_step v s here start G.Full m.trim_line_required))
     unfolding K.kinds plain_step applied with_marks
     raw_step {gap} e b c = record {
       means = λ st h. record {
@@ -319,12 +298,14 @@ module _ (text : Bytes) (words : List ℕ) (o : Options) (v : View) (s : Span) (
     }
 
   -- a bad escape
-  pub text_bad : {gap : Bool} {r : Visit} (start : ℕ) → s.tag ≡ 2 → start ≡ m.end_pos → bad_escapes text start (own_escapes words s) ≡ true
-      → r ≡ Vis.Refused (record { number = 13; place = s.number }) → KindIs text words o v s gap here r
+  pub text_bad : {gap : Bool} (start : ℕ) → s.tag ≡ 2 → start ≡ m.end_pos → bad_escapes text start (own_escapes words s) ≡ true
+      → KindIs text words o v s gap here (Err (record { reason = R.BadEscape; place = s.number }))
   unfolding K.kinds
-  text_bad start e b c q = kind_refused q (λ st h. plain_refused K.raw_text (ap kind_of e) st (ap (λ z. bad_escapes text z (own_escapes words s)) (sym (b ∙ h.tells.marks.previous)) ∙ c))
+  text_bad start e b c = record {
+    means = λ st h. plain_refused K.raw_text (ap kind_of e) st (ap (λ z. bad_escapes text z (own_escapes words s)) (sym (b ∙ h.tells.marks.previous)) ∙ c);
+  }
 
-  pub raw_bad : {gap : Bool} {r : Visit} (start : ℕ) → s.tag ≡ 3 → start ≡ s.start → bad_escapes text start (own_escapes words s) ≡ true
-      → r ≡ Vis.Refused (record { number = 13; place = s.number }) → KindIs text words o v s gap here r
+  pub raw_bad : {gap : Bool} (start : ℕ) → s.tag ≡ 3 → start ≡ s.start → bad_escapes text start (own_escapes words s) ≡ true
+      → KindIs text words o v s gap here (Err (record { reason = R.BadEscape; place = s.number }))
   unfolding K.kinds
-  raw_bad start e b c q = kind_refused q (λ st h. plain_refused K.raw_block_text (ap kind_of e) st (ap (λ z. bad_escapes text z (own_escapes words s)) (sym b) ∙ c))
+  raw_bad start e b c = record { means = λ st h. plain_refused K.raw_block_text (ap kind_of e) st (ap (λ z. bad_escapes text z (own_escapes words s)) (sym b) ∙ c) }

@@ -10,6 +10,8 @@ use mathlib.Core.Option.{Option, none, some}
 use lib.ListN.{length, replicate, length-replicate}
 use lib.Dec.{ltb}
 use borrow.Author.Tests.{lt-ltb, le-leb, ltb-false}
+use Rattle.std.specs.Prelude.{Some, None, Result, Ok, Err}
+use Rattle.std.specs.declared.option.Option as rattle
 use Rattle.support.specs.Bytes.{Bytes, if}
 use Rattle.support.specs.Utf8.{is_char_boundary}
 use Rattle.support.specs.Position.{place_after, linefeeds, characters_since}
@@ -19,6 +21,7 @@ use Rattle.listing.specs.Reading.{Elem}
 use Rattle.listing.specs.Listing.{listing}
 use Rattle.template.specs.State.{root, helper, in_else, wrapper, Level, level, State, initial, prev_end, body_of, sum_open}
 use Rattle.template.specs.Result.{accepted, refused}
+use Rattle.template.specs.Numbers.{reason_number}
 use Rattle.template.specs.Nests.{is_filling, block_open, only_templates, unfinished}
 use Rattle.template.specs.Walk.{walk_by, root_body, read_spans}
 use Rattle.template.specs.Walk as spec
@@ -32,13 +35,11 @@ use Rattle.template.specs.declared.element.Element.{Element}
 use Rattle.template.specs.declared.frame.Frame.{Frame}
 use Rattle.template.specs.declared.frame.Stage.TheVariants as G
 use Rattle.template.specs.declared.frame.Marks.{Marks}
-use Rattle.template.specs.declared.reason.Refusal.{Refusal}
+use Rattle.template.specs.declared.refusal.Refusal.{Refusal}
 use Rattle.template.specs.declared.visit.Options.{Options}
 use Rattle.template.specs.declared.visit.Here.{Here}
 use Rattle.template.specs.declared.visit.View.{View}
 use Rattle.template.specs.declared.visit.Step.{Step}
-use Rattle.template.specs.declared.visit.Visit.{Visit}
-use Rattle.template.specs.declared.visit.Visit.TheVariants as Vis
 use Rattle.template.proofs.OpenSteps.{chain_empty}
 use Rattle.template.proofs.Nesting.{tree_of}
 use Rattle.template.proofs.Fits.{Filling}
@@ -83,33 +84,33 @@ held_first {text} {words} n enough more good =
 module _ (text : Bytes) (words : List ℕ) (o : Options) where
   -- ---- what a visit ends
 
-  apart : (r : Visit) (p : Step) → r ≡ Vis.Step p → r ≡ Vis.End → ⊥
+  apart : (r : Result (rattle.Option Step) Refusal) (p : Step) → r ≡ Ok (Some p) → r ≡ Ok None → ⊥
   apart r p e f = let z : ◌≡◌ {A = ℕ} 0 1 = cc in omega (arith, z)
 
-  other : (r : Visit) (p : Step) (f : Refusal) → r ≡ Vis.Step p → r ≡ Vis.Refused f → ⊥
+  other : (r : Result (rattle.Option Step) Refusal) (p : Step) (f : Refusal) → r ≡ Ok (Some p) → r ≡ Err f → ⊥
   other r p f e g = let z : ◌≡◌ {A = ℕ} 0 1 = cc in omega (arith, z)
 
   -- while a block closes nothing ends
-  pub end_open : (v : View) (at : ℕ) (closing : Bool) (r : Visit) → LookIs text words o v at closing r → r ≡ Vis.End → closing ≡ false
+  pub end_open : (v : View) (at : ℕ) (closing : Bool) (r : Result (rattle.Option Step) Refusal) → LookIs text words o v at closing r → r ≡ Ok None → closing ≡ false
   end_open v at true r k e = absurd (apart r (still_step v at) (k.still refl) e)
   end_open v at false r k e = refl
 
-  pub refused_open : (v : View) (at : ℕ) (closing : Bool) (r : Visit) (f : Refusal) → LookIs text words o v at closing r → r ≡ Vis.Refused f → closing ≡ false
+  pub refused_open : (v : View) (at : ℕ) (closing : Bool) (r : Result (rattle.Option Step) Refusal) (f : Refusal) → LookIs text words o v at closing r → r ≡ Err f → closing ≡ false
   refused_open v at true r f k e = absurd (other r (still_step v at) f (k.still refl) e)
   refused_open v at false r f k e = refl
 
   -- a span turns the card away
-  pub turned_away : (v : View) (at : ℕ) (r : Visit) (f : Refusal) (s : State) → LookIs text words o v at false r → r ≡ Vis.Refused f → Tells text v s
-      → walked text words o initial 0 ≡ walked text words o s at → walk_listing text words o ≡ refused f.number f.place
+  pub turned_away : (v : View) (at : ℕ) (r : Result (rattle.Option Step) Refusal) (f : Refusal) (s : State) → LookIs text words o v at false r → r ≡ Err f → Tells text v s
+      → walked text words o initial 0 ≡ walked text words o s at → walk_listing text words o ≡ refused (reason_number f.reason) f.place
   unfolding read_spans
-  turned_away v at r f s k e t w = rw (w ∙ subst (λ (q : Visit). VisitMeans text words o at q s) e ((k.visits refl).means s t))
+  turned_away v at r f s k e t w = rw (w ∙ subst (λ (q : Result (rattle.Option Step) Refusal). VisitMeans text words o at q s) e ((k.visits refl).means s t))
 
   -- the list ends
-  pub list_ends : (v : View) (at : ℕ) (r : Visit) (s : State) → LookIs text words o v at false r → r ≡ Vis.End → Tells text v s
+  pub list_ends : (v : View) (at : ℕ) (r : Result (rattle.Option Step) Refusal) (s : State) → LookIs text words o v at false r → r ≡ Ok None → Tells text v s
       → walked text words o initial 0 ≡ walked text words o s at → walked text words o initial 0 ≡ accepted s
   unfolding walk_by
   list_ends v at r s k e t w =
-      let q : spans_from words at ≡ [] = subst (λ (q : Visit). VisitMeans text words o at q s) e ((k.visits refl).means s t) in
+      let q : spans_from words at ≡ [] = subst (λ (q : Result (rattle.Option Step) Refusal). VisitMeans text words o at q s) e ((k.visits refl).means s t) in
       w ∙ rw q
 
   -- ---- the end of the list
@@ -171,8 +172,8 @@ module _ (text : Bytes) (words : List ℕ) (o : Options) where
 
 -- ---- what is looked at
 
-pub looks_still : (text : Bytes) (words : List ℕ) (o : Options) (v : View) (at : ℕ) (closing : Bool) (r : Visit) → closing ≡ true → r ≡ Vis.Step (still_step v at) → LookIs text words o v at closing r
+pub looks_still : (text : Bytes) (words : List ℕ) (o : Options) (v : View) (at : ℕ) (closing : Bool) (r : Result (rattle.Option Step) Refusal) → closing ≡ true → r ≡ Ok (Some (still_step v at)) → LookIs text words o v at closing r
 looks_still text words o v at closing r c e = record { still = λ q. e; visits = λ q. absurd (let z : ◌≡◌ {A = ℕ} 0 1 = cc in omega (arith, z)) }
 
-pub looks_on : (text : Bytes) (words : List ℕ) (o : Options) (v : View) (at : ℕ) (closing : Bool) (r : Visit) → closing ≡ false → VisitIs text words o v at r → LookIs text words o v at closing r
+pub looks_on : (text : Bytes) (words : List ℕ) (o : Options) (v : View) (at : ℕ) (closing : Bool) (r : Result (rattle.Option Step) Refusal) → closing ≡ false → VisitIs text words o v at r → LookIs text words o v at closing r
 looks_on text words o v at closing r c h = record { still = λ q. absurd (let z : ◌≡◌ {A = ℕ} 0 1 = cc in omega (arith, z)); visits = λ q. h }

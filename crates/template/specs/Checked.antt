@@ -1,28 +1,36 @@
 -- What the answers about the whole input mean: 1 to 5.
-use Rattle.std.specs.Prelude.{ℕ, ◌≤◌, ◌<◌, ◌≡◌, List}
+use Rattle.std.specs.Prelude.{ℕ, ◌≤◌, ◌<◌, ◌≡◌, List, Result, Ok, Err}
 use Rattle.std.proofs.Math.Option.{none, some}
-use Rattle.support.specs.Bytes.{Bytes}
+use Rattle.support.specs.Bytes.{Bytes, if}
 use Rattle.json_path.specs.Span.{span_count}
 use Rattle.template.specs.Result.{accepted, refused}
-use Rattle.template.specs.Checks.{checks, bad_span_of}
+use Rattle.template.specs.Checks.{options_over, checks, bad_span_of}
+use Rattle.template.specs.Compile.{prevent_indent, is_partial}
 use Rattle.template.specs.Element.{Good}
-use Rattle.template.specs.declared.reason.Checked.{Checked}
-use Rattle.template.specs.declared.reason.Checked.TheVariants as C
+use Rattle.template.specs.Numbers.{reason_number}
+use Rattle.template.specs.declared.refusal.Reason.TheVariants as R
+use Rattle.template.specs.declared.refusal.Refusal.{Refusal}
+use Rattle.template.specs.declared.visit.Options.{Options}
+
+-- the options that a number from 0 to 3 stands for, or 1
+abbrev pub options_read : ℕ → Result Options Refusal
+options_read n = if (options_over n) (Err (record { reason = R.Options; place = 0 })) (Ok (record { prevent_indent = prevent_indent n; is_partial = is_partial n }))
 
 -- r is the number of the first bad span, or the count
 pub record FirstBadIs (text : Bytes) (words : List ℕ) (r : ℕ) : Type 0 where
   pub found : r < span_count words → bad_span_of text words ≡ some r
   pub absent : span_count words ≤ r → bad_span_of text words ≡ none
 
--- what passes 1 to 5
-pub record Passes (text : Bytes) (words : List ℕ) (options : ℕ) : Type 0 where
+-- what passes 1 to 5, with the options o
+pub record Passes (text : Bytes) (words : List ℕ) (options : ℕ) (o : Options) : Type 0 where
+  pub read : options_read options ≡ Ok o
   pub answer : checks text words options ≡ accepted tt
   pub good : Good text words
 
 -- the number and the place of the first reason, or there is none
-abbrev pub CheckedMeans : Bytes → List ℕ → ℕ → Checked → Type 0
-CheckedMeans text words options C.Good = Passes text words options
-CheckedMeans text words options (C.Refused f) = checks text words options ≡ refused f.number f.place
+abbrev pub CheckedMeans : Bytes → List ℕ → ℕ → Result Options Refusal → Type 0
+CheckedMeans text words options (Ok o) = Passes text words options o
+CheckedMeans text words options (Err f) = checks text words options ≡ refused (reason_number f.reason) f.place
 
-pub record CheckedIs (text : Bytes) (words : List ℕ) (options : ℕ) (r : Checked) : Type 0 where
+pub record CheckedIs (text : Bytes) (words : List ℕ) (options : ℕ) (r : Result Options Refusal) : Type 0 where
   pub means : CheckedMeans text words options r

@@ -1,5 +1,6 @@
 -- The end of the walk: whether it is unfinished, the text that is left, and the listing.
-use Rattle.std.specs.Prelude.{ℕ, ◌≡◌, ◌<◌, List, Bool, ◌&&◌, ◌||◌, not, ltb, length}
+use Rattle.std.specs.Prelude.{ℕ, ◌≤◌, ◌<◌, ◌≡◌, List, Bool, ◌&&◌, ◌||◌, not, Option, Some, None, Ok, Err, ltb, length}
+use Rattle.std.specs.declared.result.Result as code
 use Rattle.std.proofs.lemmas.List.Edits.{sets}
 use Rattle.support.specs.Bytes.{Bytes, part}
 use Rattle.support.specs.Position.{place_of, line_col}
@@ -14,8 +15,8 @@ use Rattle.template.specs.Compile.{fit}
 use Rattle.template.specs.Element.{new_element}
 use Rattle.template.specs.Store.{Holds}
 use Rattle.template.specs.Visit.{stage_means}
-use Rattle.template.specs.declared.compile.Answer.{Answer}
-use Rattle.template.specs.declared.compile.Answer.TheVariants.{Listed, Refused}
+use Rattle.template.specs.Numbers.{reason_number}
+use Rattle.template.specs.declared.refusal.Refusal.{Refusal}
 use Rattle.template.specs.declared.element.Front.TheVariants as Front
 use Rattle.template.specs.declared.element.Back.TheVariants as Back
 use Rattle.template.specs.declared.element.RawString.{RawString}
@@ -33,10 +34,19 @@ unfinished_at text m depth = not (is_filling (stage_means m.stage)) || (ltb 0 de
 abbrev pub rest_text : Bytes → List ℕ → Marks → RawString
 rest_text text words m = record { start = m.end_pos; end = length text; escapes = span_count words; front = Front.Kept; back = Back.Kept }
 
--- r is its element
-pub record RestIs (text : Bytes) (words : List ℕ) (m : Marks) (h : Here) (r : Element) : Type 0 where
-  pub new : r ≡ new_element (E.RawString (rest_text text words m)) r.place
-  pub place : place_of r.place ≡ line_col (place_of h.place) (part text h.at m.end_pos)
+-- e is its element
+pub record RestMade (text : Bytes) (words : List ℕ) (m : Marks) (h : Here) (e : Element) : Type 0 where
+  pub left : m.end_pos < length text
+  pub new : e ≡ new_element (E.RawString (rest_text text words m)) e.place
+  pub place : place_of e.place ≡ line_col (place_of h.place) (part text h.at m.end_pos)
+
+abbrev pub RestMeans : Bytes → List ℕ → Marks → Here → Option Element → Type 0
+RestMeans text words m h (Some e) = RestMade text words m h e
+RestMeans text words m h None = length text ≤ m.end_pos
+
+-- r is its element, or no text is left
+pub record RestIs (text : Bytes) (words : List ℕ) (m : Marks) (h : Here) (r : Option Element) : Type 0 where
+  pub means : RestMeans text words m h r
 
 -- what the walk lists, or why it does not
 abbrev pub walk_listing : Bytes → List ℕ → Options → Result Bytes
@@ -63,9 +73,9 @@ pub record Buffers (x : Result Bytes) (l m : Bytes) (n : ℕ) : Type 0 where
   pub stored : m ≡ sets l 0 bytes
 
 -- what an answer of the walk means
-abbrev pub BufferedMeans : Result Bytes → Bytes → Bytes → Answer → Type 0
-BufferedMeans x l m (Listed n) = Buffers x l m n
-BufferedMeans x l m (Refused n p) = (x ≡ refused n p) × (m ≡ l)
+abbrev pub BufferedMeans : Result Bytes → Bytes → Bytes → code.Result ℕ Refusal → Type 0
+BufferedMeans x l m (Ok n) = Buffers x l m n
+BufferedMeans x l m (Err f) = (x ≡ refused (reason_number f.reason) f.place) × (m ≡ l)
 
-pub record BufferedIs (x : Result Bytes) (l m : Bytes) (r : Answer) : Type 0 where
+pub record BufferedIs (x : Result Bytes) (l m : Bytes) (r : code.Result ℕ Refusal) : Type 0 where
   pub means : BufferedMeans x l m r

@@ -18,6 +18,7 @@ pub mod Element
 pub mod Raw
 pub mod Store
 pub mod Visit
+pub mod Numbers
 pub mod Answers
 pub mod Checked
 pub mod Asked

@@ -1,5 +1,5 @@
 -- What a turn of the walk does to the store: the values that it stores, and where.
-use Rattle.std.specs.Prelude.{ℕ, ◌+◌, ◌-◌, ◌≤◌, ◌<◌, ◌≡◌, List, Bool, true, false, eqb, length, get_or, set}
+use Rattle.std.specs.Prelude.{ℕ, ◌+◌, ◌-◌, ◌≤◌, ◌<◌, ◌≡◌, List, Bool, true, false, Option, Some, None, Result, Ok, eqb, length, get_or, set}
 use Rattle.support.specs.Bytes.{Bytes, if}
 use Rattle.template.specs.Element.{empty_element}
 use Rattle.template.specs.Store.{element_at}
@@ -17,8 +17,7 @@ use Rattle.template.specs.declared.visit.Added.TheVariants as N
 use Rattle.template.specs.declared.visit.Options.{Options}
 use Rattle.template.specs.declared.visit.View.{View}
 use Rattle.template.specs.declared.visit.Step.{Step}
-use Rattle.template.specs.declared.visit.Visit.{Visit}
-use Rattle.template.specs.declared.visit.Visit.TheVariants as Vis
+use Rattle.template.specs.declared.refusal.Refusal.{Refusal}
 use Rattle.template.specs.declared.turn.Turn.{Turn}
 use Rattle.template.specs.declared.turn.Plan.{Plan}
 use Rattle.template.specs.declared.turn.Open.{Open}
@@ -137,15 +136,16 @@ pub record JoinedIs (st : List Element) (x : Frame) (at : ℕ) (st' : List Eleme
   pub top : y ≡ (joined_of x (element_at st x.last) at).top
 
 -- the gap's element, if it is kept
-unfoldable pub gapped_of : Bool → Element → ℕ → Gapped
-gapped_of kept gap len = if kept (record { made = gap; len = len + 1; join = len }) (record { made = empty_element; len = len; join = 0 })
+unfoldable pub gapped_of : Option Element → ℕ → Gapped
+gapped_of (Some e) len = record { made = e; len = len + 1; join = len }
+gapped_of None len = record { made = empty_element; len = len; join = 0 }
 
 -- ---- a turn, stage by stage
 
 module _ (st : List Element) (lv : List Frame) (b : Standing) (s : Step) where
   -- the gap is made
   abbrev pub gap_made : Gapped
-  gap_made = gapped_of s.gapped s.gap b.len
+  gap_made = gapped_of s.gap b.len
 
   -- it joins the body on top
   abbrev pub gap_joined : Joined
@@ -215,9 +215,9 @@ module _ (st : List Element) (lv : List Frame) (b : Standing) (s : Step) where
 
 -- nothing happens
 abbrev pub still_step : View → ℕ → Step
-still_step v at = record { gapped = false; gap = empty_element; back = Back.Kept; act = A.Skip; marks = v.marks; here = v.here; next = at }
+still_step v at = record { gap = None; back = Back.Kept; act = A.Skip; marks = v.marks; here = v.here; next = at }
 
 -- r is what a turn does first: while a block closes nothing, else the visit
-pub record LookIs (text : Bytes) (words : List ℕ) (o : Options) (v : View) (at : ℕ) (closing : Bool) (r : Visit) : Type 0 where
-  pub still : closing ≡ true → r ≡ Vis.Step (still_step v at)
+pub record LookIs (text : Bytes) (words : List ℕ) (o : Options) (v : View) (at : ℕ) (closing : Bool) (r : Result (Option Step) Refusal) : Type 0 where
+  pub still : closing ≡ true → r ≡ Ok (Some (still_step v at))
   pub visits : closing ≡ false → VisitIs text words o v at r

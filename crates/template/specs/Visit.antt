@@ -1,5 +1,6 @@
 -- What a visit of a span answers: why the card is turned away, or the step to take, in terms of the specification's state.
-use Rattle.std.specs.Prelude.{ℕ, ◌<◌, ◌≤◌, ◌≡◌, List, [], Bool, true, false, length}
+use Rattle.std.specs.Prelude.{ℕ, ◌<◌, ◌≤◌, ◌≡◌, List, [], Bool, true, false, Some, None, Result, Ok, Err, length}
+use Rattle.std.specs.declared.option.Option as code
 use Rattle.std.proofs.Math.Option.{Option, none, some}
 use Rattle.support.specs.Bytes.{Bytes, if}
 use Rattle.support.specs.Utf8.{is_char_boundary}
@@ -16,6 +17,7 @@ use Rattle.template.specs.Walk.{walk}
 use Rattle.template.specs.Refusal.{max_open}
 use Rattle.template.specs.Element.{back_trim, item_means, head_means, wrap_means, Role, leaf, helper, wrapper, named_element}
 use Rattle.template.specs.Store.{Is}
+use Rattle.template.specs.Numbers.{reason_number}
 use Rattle.template.specs.declared.element.Back.{Back}
 use Rattle.template.specs.declared.element.Element.{Element}
 use Rattle.template.specs.declared.frame.Opened.{Opened}
@@ -30,8 +32,7 @@ use Rattle.template.specs.declared.visit.Act.{Act}
 use Rattle.template.specs.declared.visit.Act.TheVariants as A
 use Rattle.template.specs.declared.visit.Added.TheVariants as N
 use Rattle.template.specs.declared.visit.Step.{Step}
-use Rattle.template.specs.declared.visit.Visit.{Visit}
-use Rattle.template.specs.declared.visit.Visit.TheVariants as Vis
+use Rattle.template.specs.declared.refusal.Refusal.{Refusal}
 
 -- ---- the marks
 
@@ -114,9 +115,9 @@ module _ (text : Bytes) (words : List ℕ) where
   owner_means e O.Decorator = S.wrapper (place_of e.place) (wrap_means text words e.element)
   owner_means e O.Partial = S.wrapper (place_of e.place) (wrap_means text words e.element)
 
-  abbrev pub gap_effect : Bool → Element → State → State
-  gap_effect true e st = add_elem (leaf_means e) st
-  gap_effect false e st = st
+  abbrev pub gap_effect : code.Option Element → State → State
+  gap_effect (Some e) st = add_elem (leaf_means e) st
+  gap_effect None st = st
 
   abbrev pub trim_effect : Back → State → State
   trim_effect b st = with_top (trim_last (back_trim b) st.top) st
@@ -131,7 +132,7 @@ module _ (text : Bytes) (words : List ℕ) where
 
   -- the state after a step: the gap, the trim, the act, the marks
   unfoldable pub applied : Step → State → State
-  applied p st = with_marks p.marks (act_effect p.act (trim_effect p.back (gap_effect p.gapped p.gap st)))
+  applied p st = with_marks p.marks (act_effect p.act (trim_effect p.back (gap_effect p.gap st)))
 
   -- an element that was just made, with a place
   pub record Made (r : Role) (e : Element) : Type 0 where
@@ -167,27 +168,27 @@ module _ (text : Bytes) (words : List ℕ) where
   Allowed A.Else st = takes_else (owner st) ≡ true
   Allowed A.Close st = owner st ≡ S.root → ⊥
 
-  abbrev pub GapMade : Bool → Element → Type 0
-  GapMade true e = Made leaf e
-  GapMade false e = Unit {0}
+  abbrev pub GapMade : code.Option Element → Type 0
+  GapMade (Some e) = Made leaf e
+  GapMade None = Unit {0}
 
   -- p is the step that the walk takes from st at number `at`
   pub record StepIs (o : Options) (at : ℕ) (p : Step) (st : State) : Type 0 where
     pub steps : walk text words o.prevent_indent o.is_partial st (spans_from words at) ≡ walk text words o.prevent_indent o.is_partial (applied p st) (spans_from words p.next)
-    pub gap : GapMade p.gapped p.gap
+    pub gap : GapMade p.gap
     pub act : Allowed p.act st
     -- a root that waits takes no gap
-    pub gapless : st.stage ≡ S.waiting → owner st ≡ S.root → p.gapped ≡ false
+    pub gapless : st.stage ≡ S.waiting → owner st ≡ S.root → p.gap ≡ None
     pub here : HereIs text p.here p.marks.end_pos
     pub previous : p.marks.end_pos ≡ prev_end (with_marks p.marks st)
     pub onward : at < p.next
     pub inside : at < span_count words
 
-  abbrev pub VisitMeans : Options → ℕ → Visit → State → Type 0
-  VisitMeans o at (Vis.Refused f) st = walk text words o.prevent_indent o.is_partial st (spans_from words at) ≡ refused f.number f.place
-  VisitMeans o at Vis.End st = spans_from words at ≡ []
-  VisitMeans o at (Vis.Step p) st = StepIs o at p st
+  abbrev pub VisitMeans : Options → ℕ → Result (code.Option Step) Refusal → State → Type 0
+  VisitMeans o at (Err f) st = walk text words o.prevent_indent o.is_partial st (spans_from words at) ≡ refused (reason_number f.reason) f.place
+  VisitMeans o at (Ok None) st = spans_from words at ≡ []
+  VisitMeans o at (Ok (Some p)) st = StepIs o at p st
 
   -- r is the visit of the walked span from number `at` on, from every state that v tells of
-  pub record VisitIs (o : Options) (v : View) (at : ℕ) (r : Visit) : Type 0 where
+  pub record VisitIs (o : Options) (v : View) (at : ℕ) (r : Result (code.Option Step) Refusal) : Type 0 where
     pub means : (st : State) → Tells text v st → VisitMeans o at r st

@@ -1,5 +1,5 @@
 -- What is decided of a walked span once 6 and 7 are asked, by its kind.
-use Rattle.std.specs.Prelude.{ℕ, ◌+◌, ◌≤◌, ◌<◌, ◌≡◌, List, Bool, true, false, ◌&&◌, not, length}
+use Rattle.std.specs.Prelude.{ℕ, ◌+◌, ◌≤◌, ◌<◌, ◌≡◌, List, Bool, true, false, ◌&&◌, not, Option, Some, None, is_some, Result, Ok, Err, length}
 use Rattle.support.specs.Bytes.{Bytes, if, part}
 use Rattle.support.specs.Utf8.{is_char_boundary}
 use Rattle.support.specs.Position.{place_at, place_of, line_col}
@@ -17,9 +17,10 @@ use Rattle.template.specs.Nests.{kept_gap, nests}
 use Rattle.template.specs.Refusal.{too_many_open, helper_name_differs, decorator_name_differs}
 use Rattle.template.specs.Step.{tag_step}
 use Rattle.template.specs.Walk.{walk_kind}
-use Rattle.template.specs.Element.{call_at, new_element, empty_element}
+use Rattle.template.specs.Element.{call_at, new_element}
 use Rattle.template.specs.TagRead.{tag_means}
 use Rattle.template.specs.Asked.{NamesAre}
+use Rattle.template.specs.Numbers.{reason_number}
 use Rattle.template.specs.Visit.{stage_means, with_marks, HereIs, Tells, applied, GapMade, Allowed}
 use Rattle.template.specs.declared.element.Front.{Front}
 use Rattle.template.specs.declared.element.Back.{Back}
@@ -41,8 +42,9 @@ use Rattle.template.specs.declared.visit.Act.{Act}
 use Rattle.template.specs.declared.visit.Act.TheVariants as A
 use Rattle.template.specs.declared.visit.Added.TheVariants as N
 use Rattle.template.specs.declared.visit.Step.{Step}
-use Rattle.template.specs.declared.visit.Visit.{Visit}
-use Rattle.template.specs.declared.visit.Visit.TheVariants as Vis
+use Rattle.template.specs.declared.refusal.Reason.{Reason}
+use Rattle.template.specs.declared.refusal.Reason.TheVariants as R
+use Rattle.template.specs.declared.refusal.Refusal.{Refusal}
 
 -- a span of an input that passes 5
 pub record SpanFits (text : Bytes) (s : Span) : Type 0 where
@@ -65,43 +67,33 @@ module _ (text : Bytes) (words : List ℕ) where
   -- p is the step that s makes from st
   pub record Makes (o : Options) (s : Span) (p : Step) (st : State) : Type 0 where
     pub makes : walk_kind text words o.prevent_indent o.is_partial (kind_of s.tag) st s (spans_from words (s.number + 1)) ≡ accepted (applied text words p st, spans_from words p.next)
-    pub gap : GapMade text words p.gapped p.gap
+    pub gap : GapMade text words p.gap
     pub act : Allowed text words p.act st
     -- a root that waits takes no gap
-    pub gapless : st.stage ≡ S.waiting → S.owner st ≡ S.root → p.gapped ≡ false
+    pub gapless : st.stage ≡ S.waiting → S.owner st ≡ S.root → p.gap ≡ None
     pub here : HereIs text p.here p.marks.end_pos
     pub previous : p.marks.end_pos ≡ prev_end (with_marks p.marks st)
     pub onward : s.number < p.next
 
-  abbrev pub KindMeans : Options → Span → Visit → State → Type 0
-  KindMeans o s (Vis.Refused f) st = walk_kind text words o.prevent_indent o.is_partial (kind_of s.tag) st s (spans_from words (s.number + 1)) ≡ refused f.number f.place
-  KindMeans o s Vis.End st = ⊥
-  KindMeans o s (Vis.Step p) st = Makes o s p st
+  abbrev pub KindMeans : Options → Span → Result Step Refusal → State → Type 0
+  KindMeans o s (Err f) st = walk_kind text words o.prevent_indent o.is_partial (kind_of s.tag) st s (spans_from words (s.number + 1)) ≡ refused (reason_number f.reason) f.place
+  KindMeans o s (Ok p) st = Makes o s p st
 
   -- r is what is decided of s behind 6 and 7
-  pub record KindIs (o : Options) (v : View) (s : Span) (gap : Bool) (here : Here) (r : Visit) : Type 0 where
+  pub record KindIs (o : Options) (v : View) (s : Span) (gap : Bool) (here : Here) (r : Result Step Refusal) : Type 0 where
     pub means : (st : State) → Visited text v s gap here st → KindMeans o s r st
 
   -- p is the step of the tag s that has read x, where 12 does not hold
   pub record TagMakes (o : Options) (v : View) (s : Span) (x : TagExpression) (gap : Bool) (here : Here) (p : Step) : Type 0 where
     pub makes : (k : Tag) (st : State) → kind_of s.tag ≡ tagged k → Visited text v s gap here st
         → tag_step text o.prevent_indent o.is_partial k st s (tag_means text words s.end x) ≡ applied text words p st
-    pub gap_made : (st : State) → Visited text v s gap here st → GapMade text words p.gapped p.gap
+    pub gap_made : (st : State) → Visited text v s gap here st → GapMade text words p.gap
     pub allowed : (k : Tag) (st : State) → kind_of s.tag ≡ tagged k → Visited text v s gap here st → too_many_open k st ≡ false
         → as_name (param_means text words x.name) ≡ name_of (call_at text words x.from s.end) → Allowed text words p.act st
-    pub gapped : p.gapped ≡ gap
+    pub gapped : is_some p.gap ≡ gap
     pub placed : (st : State) → Visited text v s gap here st → HereIs text p.here p.marks.end_pos
     pub previous : (st : State) → p.marks.end_pos ≡ prev_end (with_marks p.marks st)
     pub next : p.next ≡ x.next
-
-  -- r is such a step
-  abbrev pub TagStepMeans : Options → View → Span → TagExpression → Bool → Here → Visit → Type 0
-  TagStepMeans o v s x gap here (Vis.Refused f) = ⊥
-  TagStepMeans o v s x gap here Vis.End = ⊥
-  TagStepMeans o v s x gap here (Vis.Step p) = TagMakes o v s x gap here p
-
-  pub record TagStepIs (o : Options) (v : View) (s : Span) (x : TagExpression) (gap : Bool) (here : Here) (r : Visit) : Type 0 where
-    pub means : TagStepMeans o v s x gap here r
 
 -- ---- what a step is made of
 
@@ -122,6 +114,10 @@ raw_front m = if m.omit_pro_ws Front.White (front_of m)
 abbrev pub gap_text : List ℕ → Marks → Span → RawString
 gap_text words m s = record { start = m.end_pos; end = s.start; escapes = span_count words; front = front_of m; back = Back.Kept }
 
+-- its element, if it is kept
+abbrev pub gap_element : List ℕ → Marks → Span → code.Place → Bool → Option Element
+gap_element words m s p kept = if kept (Some (new_element (E.RawString (gap_text words m s)) p)) None
+
 -- the text of tag 2 or 3 from `start` on, and its step with this stage and line mark behind it
 
 abbrev pub text_element : View → Span → ℕ → code.Place → Element
@@ -129,8 +125,7 @@ text_element v s start p = new_element (E.RawString (record { start = start; end
 
 abbrev pub text_step : View → Span → Here → ℕ → Stage → Bool → Step
 text_step v s here start g l = record {
-  gapped = false;
-  gap = empty_element;
+  gap = None;
   back = Back.Kept;
   act = A.Add (text_element v s start here.place) N.Leaf;
   marks = record { stage = g; end_pos = s.end; started = true; omit_pro_ws = v.marks.omit_pro_ws; trim_line_required = l };
@@ -180,7 +175,7 @@ abbrev pub helper_of : TagExpression → Span → Bool → HelperTemplate
 helper_of x s mark = record { from = x.from; limit = s.end; indent_before_write = mark }
 
 abbrev pub decorator_of : TagExpression → Span → Bool → Bool → DecoratorTemplate
-decorator_of x s mark indent = record { from = x.from; limit = s.end; indent_before_write = mark; indent = indent; start = s.start }
+decorator_of x s mark indent = record { from = x.from; limit = s.end; indent_before_write = mark; indent = if indent (Some s.start) None }
 
 -- the element that a tag makes that has read x
 abbrev pub element_for : Tag → Span → TagExpression → Bool → Bool → TemplateElement
@@ -248,9 +243,9 @@ pub record ActIs (tag : ℕ) (e : Element) (r : Act) : Type 0 where
 pub record IndentIs (tag : ℕ) (prevent left r : Bool) : Type 0 where
   pub means : (k : Tag) → kind_of tag ≡ tagged k → r ≡ indent_of k prevent left
 
--- 12, 10 or 11, in this order, or 0 for none
-abbrev pub refusal_of : Tag → State → Expression → ℕ
-refusal_of k st x = if (too_many_open k st) 12 (if (helper_name_differs k st x) 10 (if (decorator_name_differs k st x) 11 0))
+-- 12, 10 or 11, in this order, or none
+abbrev pub refusal_of : Tag → State → Expression → Option Reason
+refusal_of k st x = if (too_many_open k st) (Some R.OverLimit) (if (helper_name_differs k st x) (Some R.HelperName) (if (decorator_name_differs k st x) (Some R.DecoratorName) None))
 
-pub record RefusalIs (text : Bytes) (tag count : ℕ) (opened end : AsName) (r : ℕ) : Type 0 where
+pub record RefusalIs (text : Bytes) (tag count : ℕ) (opened end : AsName) (r : Option Reason) : Type 0 where
   pub means : (k : Tag) (st : State) (x : Expression) → kind_of tag ≡ tagged k → count ≡ open_count st → NamesAre text opened end st x → r ≡ refusal_of k st x

@@ -9,25 +9,19 @@ ghost use Rattle.template.specs.Finish.{walk_answer};
 use crate::element::Element;
 use crate::frame::Marks;
 use crate::lines::find_lines;
-use crate::reason::{Checked, checks};
+use crate::reason::checks;
+use crate::refusal::{Reason, Refusal};
 use crate::visit::Options;
 use crate::walk::walk;
 use json_path::span::span_count;
 
-// The listing's length, or a number from 1 to 14 and a place.
-#[derive(Clone, Copy)]
-pub enum Answer {
-    Listed(usize),
-    Refused(u32, usize),
-}
+impl Element {
+    // How many bytes a buffer has that elements are listed into. A longer listing costs a second walk.
+    pub const LARGE_ROOM: usize = 131072;
 
-impl Answer {
-    // How many bytes the buffers have. A longer listing costs a second walk.
-    pub const LARGE: usize = 131072;
+    pub const FEW_ROOM: usize = 65536;
 
-    pub const FEW: usize = 65536;
-
-    pub const SMALL: usize = 16384;
+    pub const SMALL_ROOM: usize = 16384;
 }
 
 impl Marks {
@@ -46,7 +40,7 @@ fn compile_in<const LINES: usize, const STORE: usize, const ROOM: usize>(
     words: &[u32],
     o: Options,
     out: &mut [u8],
-) -> Answer
+) -> Result<usize, Refusal>
     requires good { Good text.now words.now }
     requires short { length text.now < LINES }
     requires few { 2 * span_count words.now < STORE }
@@ -58,48 +52,37 @@ fn compile_in<const LINES: usize, const STORE: usize, const ROOM: usize>(
     let mut ends = [false; LINES];
     find_lines(text, &mut starts, &mut ends);
     let mut buffer = [0u8; ROOM];
-    let a = walk::<STORE>(text, &starts, &ends, words, o, &mut buffer);
-    match a {
-        Answer::Refused(number, place) => Answer::Refused(number, place),
-        Answer::Listed(n) => {
-            if out.len() < n {
-                return Answer::Refused(14, n);
-            }
-            if ROOM < n {
-                return walk::<STORE>(text, &starts, &ends, words, o, out);
-            }
-            out[..n].copy_from_slice(&buffer[..n]);
-            Answer::Listed(n)
-        }
+    let n = walk::<STORE>(text, &starts, &ends, words, o, &mut buffer)?;
+    if out.len() < n {
+        return Err(Refusal {
+            reason: Reason::ListingTooLong,
+            place: n,
+        });
     }
+    if ROOM < n {
+        return walk::<STORE>(text, &starts, &ends, words, o, out);
+    }
+    out[..n].copy_from_slice(&buffer[..n]);
+    Ok(n)
 }
 
 // Lists the tree of a text into `out`, or says why not. A call that refuses leaves `out` as it was, one
 // that lists changes only what its listing fills.
-pub fn compile2(text: &[u8], spans: &[u32], options: u32, out: &mut [u8]) -> Answer
+pub fn compile2(text: &[u8], spans: &[u32], options: u32, out: &mut [u8]) -> Result<usize, Refusal>
     ensures { AnswerIs (answer text.now spans.now options (length out.old)) out.old out.new result }
 {
-    let c = checks(text, spans, options);
-    match c {
-        Checked::Refused(r) => Answer::Refused(r.number, r.place),
-        Checked::Good => {
-            let o = Options {
-                prevent_indent: options % 2 == 1,
-                is_partial: options / 2 % 2 == 1,
-            };
-            if Element::SMALL <= 2 * span_count(spans) {
-                compile_in::<{ Marks::LINES }, { Element::LIMIT }, { Answer::LARGE }>(
-                    text, spans, o, out,
-                )
-            } else if Marks::SHORT < text.len() {
-                compile_in::<{ Marks::LINES }, { Element::SMALL }, { Answer::FEW }>(
-                    text, spans, o, out,
-                )
-            } else {
-                compile_in::<{ Marks::SHORT_LINES }, { Element::SMALL }, { Answer::SMALL }>(
-                    text, spans, o, out,
-                )
-            }
-        }
+    let o = checks(text, spans, options)?;
+    if Element::SMALL <= 2 * span_count(spans) {
+        compile_in::<{ Marks::LINES }, { Element::LIMIT }, { Element::LARGE_ROOM }>(
+            text, spans, o, out,
+        )
+    } else if Marks::SHORT < text.len() {
+        compile_in::<{ Marks::LINES }, { Element::SMALL }, { Element::FEW_ROOM }>(
+            text, spans, o, out,
+        )
+    } else {
+        compile_in::<{ Marks::SHORT_LINES }, { Element::SMALL }, { Element::SMALL_ROOM }>(
+            text, spans, o, out,
+        )
     }
 }

@@ -8,6 +8,7 @@ mod lines;
 mod list;
 mod raw;
 mod reason;
+pub mod refusal;
 mod tag;
 mod tree;
 mod turn;

@@ -1,10 +1,9 @@
 // Why a card is turned away: 1 to 5, asked of the whole input, and those of a walked span.
 ghost use Rattle.std.specs.Prelude.{◌≡◌, ◌<◌};
 ghost use Rattle.json_path.specs.Span.{escapes_from};
-ghost use Rattle.expression.specs.Read.{fault_number};
 ghost use Rattle.expression.specs.Answers.{fault_means, as_name_means};
 ghost use Rattle.template.specs.Checks.{bad_span};
-ghost use Rattle.template.specs.Checked.{FirstBadIs, CheckedIs};
+ghost use Rattle.template.specs.Checked.{FirstBadIs, options_read, CheckedIs};
 ghost use Rattle.template.specs.Nests.{is_filling, is_waiting, may_end};
 ghost use Rattle.template.specs.Escapes.{escapes_to, bad_escape, bad_escapes};
 ghost use Rattle.template.specs.Refusal.{fault_place, same_name, is_empty_name};
@@ -12,23 +11,13 @@ ghost use Rattle.template.specs.Visit.{stage_means};
 ghost use Rattle.template.specs.Asked.{KeptIs, RawIs, TakesIs, OfKindIs, NestsIs, TooManyIs, HelperDiffersIs, DecoratorDiffersIs};
 
 use crate::frame::{Frame, Marks, Opened, Stage};
+use crate::refusal::{Reason, Refusal};
+use crate::visit::Options;
 use expression::parameter::{AsName, Fault};
 use json_path::path::Name;
 use json_path::span::{Escape, Span, escape_at, span_at, span_count};
 use support::bytes::{byte_at, part, same_bytes};
 use support::utf8::{is_char_boundary, valid_up_to};
-
-#[derive(Clone, Copy)]
-pub struct Refusal {
-    pub number: u32,
-    pub place: usize,
-}
-
-#[derive(Clone, Copy)]
-pub enum Checked {
-    Good,
-    Refused(Refusal),
-}
 
 impl Marks {
     // How many bytes a text may have.
@@ -72,40 +61,58 @@ fn first_bad(text: &[u8], words: &[u32]) -> usize
     k
 }
 
-fn refused(number: u32, place: usize) -> Checked
-    ensures { result ≡ Checked.Refused (record { number = number; place = place }) }
-{
-    Checked::Refused(Refusal {
-        number: number,
-        place: place,
-    })
+// 1 for `prevent_indent` plus 2 for `is_partial`.
+impl TryFrom<u32> for Options {
+    type Error = Refusal;
+
+    ghost try_from_gives = { λ n r. r ≡ options_read n };
+
+    fn try_from(n: u32) -> Result<Options, Refusal> {
+        if 3 < n {
+            return Err(Refusal {
+                reason: Reason::Options,
+                place: 0,
+            });
+        }
+        Ok(Options {
+            prevent_indent: n % 2 == 1,
+            is_partial: n / 2 % 2 == 1,
+        })
+    }
 }
 
 // 1 to 5, in order.
-pub(crate) fn checks(text: &[u8], words: &[u32], options: u32) -> Checked
+pub(crate) fn checks(text: &[u8], words: &[u32], options: u32) -> Result<Options, Refusal>
     ensures { CheckedIs text.now words.now options result }
 {
-    if 3 < options {
-        return refused(1, 0);
-    }
+    let o = Options::try_from(options)?;
     if Marks::TEXT < text.len() {
-        return refused(2, 0);
+        return Err(Refusal {
+            reason: Reason::TextTooLong,
+            place: 0,
+        });
     }
-    if words.len() % 3 != 0 {
-        return refused(3, 0);
-    }
-    if Span::LIMIT < span_count(words) {
-        return refused(3, 0);
+    if words.len() % 3 != 0 || Span::LIMIT < span_count(words) {
+        return Err(Refusal {
+            reason: Reason::SpanList,
+            place: 0,
+        });
     }
     let valid = valid_up_to(text);
     if valid < text.len() {
-        return refused(4, valid);
+        return Err(Refusal {
+            reason: Reason::NotUtf8,
+            place: valid,
+        });
     }
     let bad = first_bad(text, words);
     if bad < span_count(words) {
-        return refused(5, bad);
+        return Err(Refusal {
+            reason: Reason::BadSpan,
+            place: bad,
+        });
     }
-    Checked::Good
+    Ok(o)
 }
 
 // A gap stands before the span and is kept.
@@ -118,8 +125,7 @@ pub(crate) fn kept_gap(m: Marks, s: Span) -> bool
     if m.omit_pro_ws {
         return false;
     }
-    let tag = s.tag;
-    match tag {
+    match s.tag {
         1..=3 => false,
         _ => true,
     }
@@ -128,46 +134,26 @@ pub(crate) fn kept_gap(m: Marks, s: Span) -> bool
 pub(crate) fn is_filling(g: Stage) -> bool
     ensures { result ≡ is_filling (stage_means g) }
 {
-    match g {
-        Stage::Waiting => false,
-        Stage::Filling => true,
-        Stage::Full => false,
-    }
+    matches!(g, Stage::Filling)
 }
 
 fn is_waiting(g: Stage) -> bool
     ensures { result ≡ is_waiting (stage_means g) }
 {
-    match g {
-        Stage::Waiting => true,
-        Stage::Filling => false,
-        Stage::Full => false,
-    }
+    matches!(g, Stage::Waiting)
 }
 
 fn is_raw(o: Opened) -> bool
     ensures { RawIs o result }
 {
-    match o {
-        Opened::Raw => true,
-        Opened::Root => false,
-        Opened::Helper => false,
-        Opened::Decorator => false,
-        Opened::Partial => false,
-    }
+    matches!(o, Opened::Raw)
 }
 
 // A helper block with no plain else so far.
 fn takes_else(o: Opened, inverted: bool) -> bool
     ensures { TakesIs o inverted result }
 {
-    match o {
-        Opened::Helper => !inverted,
-        Opened::Root => false,
-        Opened::Raw => false,
-        Opened::Decorator => false,
-        Opened::Partial => false,
-    }
+    matches!(o, Opened::Helper) && !inverted
 }
 
 // An end tag needs the innermost block's kind.
@@ -240,8 +226,7 @@ pub(crate) fn bad_escapes(
     let mut least = start;
     let mut k = from;
     loop {
-        let e = escape_at(words, k);
-        let Escape::Found(x) = e else {
+        let Escape::Found(x) = escape_at(words, k) else {
             return false;
         };
         if limit < x.end {
@@ -252,17 +237,6 @@ pub(crate) fn bad_escapes(
         }
         least = x.start + 1;
         k += 1;
-    }
-}
-
-pub(crate) fn fault_number(f: Fault) -> u32
-    ensures { result ≡ fault_number (fault_means f) }
-{
-    match f {
-        Fault::Ended => 8,
-        Fault::NotAllowed => 8,
-        Fault::InvalidLiteral => 9,
-        Fault::OverLimit => 12,
     }
 }
 

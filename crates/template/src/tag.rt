@@ -19,50 +19,43 @@ pub struct TagExpression {
     pub next: usize,
 }
 
-#[derive(Clone, Copy)]
-pub enum TagRead {
-    Done(TagExpression),
-    Failed(Fault),
-}
-
 // From number `from` on up to the limit; `left`: a left tilde stood before.
-fn read_own(text: &[u8], words: &[u32], from: usize, limit: usize, left: bool) -> TagRead
+fn read_own(
+    text: &[u8],
+    words: &[u32],
+    from: usize,
+    limit: usize,
+    left: bool,
+) -> Result<TagExpression, Fault>
     ensures { OwnReadIs text.now words.now from limit left result }
 {
-    let r = parse_expression(text, words, from, limit, Subexpression::LIMIT, true);
-    match r {
-        ExpressionRead::Done(x) => {
-            let name = x.name;
-            let pre = if left { true } else { x.omit_pre_ws };
-            TagRead::Done(TagExpression {
-                omit_pre_ws: pre,
-                omit_pro_ws: x.omit_pro_ws,
-                name: name,
-                from: from,
-                next: x.next,
-            })
-        }
-        ExpressionRead::Failed(f) => TagRead::Failed(f),
+    match parse_expression(text, words, from, limit, Subexpression::LIMIT, true) {
+        ExpressionRead::Done(x) => Ok(TagExpression {
+            omit_pre_ws: left || x.omit_pre_ws,
+            omit_pro_ws: x.omit_pro_ws,
+            name: x.name,
+            from,
+            next: x.next,
+        }),
+        ExpressionRead::Failed(f) => Err(f),
     }
 }
 
 // Tag 10 takes a left tilde, a name, then its expression.
-fn read_chain(text: &[u8], words: &[u32], s: Span) -> TagRead
+fn read_chain(text: &[u8], words: &[u32], s: Span) -> Result<TagExpression, Fault>
     requires { s.number < span_count words.now }
     ensures { s.tag ≡ 10 → TagReadIs text.now words.now s result }
 {
-    let t = parse_tilde(words, s.number + 1);
-    let TildeRead::Done(left, at) = t else {
-        return TagRead::Failed(Fault::Ended);
+    let TildeRead::Done(left, at) = parse_tilde(words, s.number + 1) else {
+        return Err(Fault::Ended);
     };
-    let p = parse_name(text, words, at, Subexpression::LIMIT, true);
-    match p {
+    match parse_name(text, words, at, Subexpression::LIMIT, true) {
         ParamRead::Done(_, next) => read_own(text, words, next, s.end, left),
-        ParamRead::Failed(f) => TagRead::Failed(f),
+        ParamRead::Failed(f) => Err(f),
     }
 }
 
-pub(crate) fn read_tag(text: &[u8], words: &[u32], s: Span) -> TagRead
+pub(crate) fn read_tag(text: &[u8], words: &[u32], s: Span) -> Result<TagExpression, Fault>
     requires { s.number < span_count words.now }
     ensures { TagReadIs text.now words.now s result }
 {

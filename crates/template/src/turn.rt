@@ -260,22 +260,21 @@ pub struct Gapped {
     pub join: usize,
 }
 
-pub(crate) fn take_gap(kept: bool, gap: Element, len: usize) -> Gapped
+pub(crate) fn take_gap(gap: Option<Element>, len: usize) -> Gapped
     requires { len ≤ 8192 }
-    ensures { result ≡ gapped_of kept gap len }
+    ensures { result ≡ gapped_of gap len }
 {
-    if kept {
-        Gapped {
-            made: gap,
+    match gap {
+        Some(made) => Gapped {
+            made,
             len: len + 1,
             join: len,
-        }
-    } else {
-        Gapped {
+        },
+        None => Gapped {
             made: Element::EMPTY,
             len,
             join: 0,
-        }
+        },
     }
 }
 
@@ -321,7 +320,7 @@ pub(crate) fn take_turn(
     requires { TurnFits elements.old levels.old b s }
     ensures { TurnIs elements.old levels.old b s elements.new levels.new result }
 {
-    let g = take_gap(s.gapped, s.gap, b.len);
+    let g = take_gap(s.gap, b.len);
     elements[b.len] = g.made;
     let top = join(elements, b.top, g.join);
     elements[top.last] = elements[top.last].trim_end(s.back);

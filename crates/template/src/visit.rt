@@ -1,5 +1,5 @@
 // What a walked span does: why it turns the card away, or the step that it makes.
-ghost use Rattle.std.specs.Prelude.{◌≡◌, List, Bool, true, false, ◌&&◌, ◌||◌, not, ℕ, ◌+◌, ◌≤◌, ◌<◌, eqb, length, drop};
+ghost use Rattle.std.specs.Prelude.{◌≡◌, List, Bool, true, false, ◌&&◌, ◌||◌, not, ℕ, ◌+◌, ◌≤◌, ◌<◌, Ok, eqb, length, drop};
 ghost use Rattle.support.specs.Bytes.{Bytes, if, is_empty};
 ghost use Rattle.support.specs.TextRules.{starts_with_empty_line};
 ghost use Rattle.json_path.specs.Span.{span_count};
@@ -9,17 +9,18 @@ ghost use Rattle.template.specs.Step.{after_gap, standalone};
 ghost use Rattle.template.specs.Element.{Good, new_element};
 ghost use Rattle.template.specs.Visit.{stage_means, VisitIs};
 ghost use Rattle.template.specs.Lines.{StartsAre, LinesAre};
-ghost use Rattle.template.specs.Visiting.{SpanFits, KindIs, TagStepIs, AdvanceIs, front_of, raw_front, gap_text, text_element, text_step, trim_of, helper_of, decorator_of, CutIs, LineIs, StageIs, ElementIs, BeginIs, ActIs, IndentIs, RefusalIs};
+ghost use Rattle.template.specs.Visiting.{SpanFits, KindIs, TagMakes, AdvanceIs, front_of, raw_front, gap_element, text_element, text_step, trim_of, helper_of, decorator_of, CutIs, LineIs, StageIs, ElementIs, BeginIs, ActIs, IndentIs, RefusalIs};
 
 use crate::element::{
     Back, Comment, DecoratorTemplate, Element, Front, HelperTemplate, RawString, TemplateElement,
 };
 use crate::frame::{Marks, Opened, Stage};
 use crate::reason::{
-    Refusal, bad_escapes, decorator_name_differs, fault_number, fault_place, helper_name_differs,
-    kept_gap, nests, too_many_open,
+    bad_escapes, decorator_name_differs, fault_place, helper_name_differs, kept_gap, nests,
+    too_many_open,
 };
-use crate::tag::{TagExpression, TagRead, read_tag};
+use crate::refusal::{Reason, Refusal};
+use crate::tag::{TagExpression, read_tag};
 use expression::parameter::AsName;
 use json_path::span::{Next, Span, next_span, span_count};
 use support::bytes::part;
@@ -72,8 +73,7 @@ pub enum Act {
 // First the gap, if it is kept, joins the innermost body, then its last text is trimmed, then the act.
 #[derive(Clone, Copy)]
 pub struct Step {
-    pub gapped: bool,
-    pub gap: Element,
+    pub gap: Option<Element>,
     pub back: Back,
     pub act: Act,
     pub marks: Marks,
@@ -81,51 +81,12 @@ pub struct Step {
     pub next: usize,
 }
 
-#[derive(Clone, Copy)]
-pub enum Visit {
-    Refused(Refusal),
-    End,
-    Step(Step),
-}
-
-fn refused(number: u32, place: usize) -> Visit
-    ensures { result ≡ Visit.Refused (record { number = number; place = place }) }
-{
-    Visit::Refused(Refusal {
-        number: number,
-        place: place,
-    })
-}
-
-fn step_as(
-    gapped: bool,
-    gap: Element,
-    back: Back,
-    act: Act,
-    marks: Marks,
-    here: Here,
-    next: usize,
-) -> Visit
-    ensures { result ≡ Visit.Step (record { gapped = gapped; gap = gap; back = back; act = act; marks = marks; here = here; next = next }) }
-{
-    Visit::Step(Step {
-        gapped: gapped,
-        gap: gap,
-        back: back,
-        act: act,
-        marks: marks,
-        here: here,
-        next: next,
-    })
-}
-
 // The place of a later offset.
 fn advance(text: &[u8], here: Here, to: usize) -> Here
     ensures { AdvanceIs text.now here to result }
 {
-    let from = here.place;
     Here {
-        place: line_col(from, part(text, here.at, to)),
+        place: line_col(here.place, part(text, here.at, to)),
         at: to,
     }
 }
@@ -146,11 +107,14 @@ fn front_of(m: Marks) -> Front
     Front::Kept
 }
 
-// The gap before a span, as a text.
-fn gap_of(words: &[u32], m: Marks, s: Span, place: Place) -> Element
-    ensures { result ≡ new_element (TemplateElement.RawString (gap_text words.now m s)) place }
+// The gap before a span, as a text, if it is kept.
+fn gap_of(words: &[u32], m: Marks, s: Span, place: Place, kept: bool) -> Option<Element>
+    ensures { result ≡ gap_element words.now m s place kept }
 {
-    Element::new(
+    if !kept {
+        return None;
+    }
+    Some(Element::new(
         TemplateElement::RawString(RawString {
             start: m.end_pos,
             end: s.start,
@@ -159,7 +123,7 @@ fn gap_of(words: &[u32], m: Marks, s: Span, place: Place) -> Element
             back: Back::Kept,
         }),
         place,
-    )
+    ))
 }
 
 // A raw block that waits takes the gap as its body.
@@ -176,53 +140,45 @@ fn stage_after_gap(g: Stage, gap: bool) -> Stage
     }
 }
 
-fn skipped(words: &[u32], v: View, s: Span, gap: bool, here: Here) -> Visit
+fn skipped(words: &[u32], v: View, s: Span, gap: bool, here: Here) -> Step
     requires kind { kind_of s.tag ≡ plain skipped }
     requires counted { s.number < span_count words.now }
-    ensures { (text : Bytes) (o : Options) → KindIs text words.now o v s gap here result }
+    ensures { (text : Bytes) (o : Options) → KindIs text words.now o v s gap here (Ok result) }
 {
     let m = v.marks;
-    let g = m.stage;
-    step_as(
-        gap,
-        gap_of(words, m, s, here.place),
-        Back::Kept,
-        Act::Skip,
-        Marks {
-            stage: stage_after_gap(g, gap),
+    Step {
+        gap: gap_of(words, m, s, here.place, gap),
+        back: Back::Kept,
+        act: Act::Skip,
+        marks: Marks {
+            stage: stage_after_gap(m.stage, gap),
             end_pos: s.end,
             started: true,
-            omit_pro_ws: m.omit_pro_ws,
             trim_line_required: but_not(m.trim_line_required, gap),
+            ..m
         },
         here,
-        s.number + 1,
-    )
+        next: s.number + 1,
+    }
 }
 
 // A template span gives the body that is waited for; it does not become the previous one.
-fn template(v: View, s: Span) -> Visit
+fn template(v: View, s: Span) -> Step
     requires tag_is { s.tag ≡ 1 }
     requires counted { s.number < max_spans }
-    ensures { (text : Bytes) (words : List ℕ) (o : Options) (gap : Bool) (here : Here) → KindIs text words o v s gap here result }
+    ensures { (text : Bytes) (words : List ℕ) (o : Options) (gap : Bool) (here : Here) → KindIs text words o v s gap here (Ok result) }
 {
-    let m = v.marks;
-    let here = v.here;
-    step_as(
-        false,
-        Element::EMPTY,
-        Back::Kept,
-        Act::Skip,
-        Marks {
+    Step {
+        gap: None,
+        back: Back::Kept,
+        act: Act::Skip,
+        marks: Marks {
             stage: Stage::Filling,
-            end_pos: m.end_pos,
-            started: m.started,
-            omit_pro_ws: m.omit_pro_ws,
-            trim_line_required: m.trim_line_required,
+            ..v.marks
         },
-        here,
-        s.number + 1,
-    )
+        here: v.here,
+        next: s.number + 1,
+    }
 }
 
 fn raw_front(m: Marks) -> Front
@@ -239,13 +195,12 @@ fn text_of(v: View, s: Span, start: usize, place: Place) -> Element
     requires { s.number < max_spans }
     ensures { result ≡ text_element v s start place }
 {
-    let m = v.marks;
     Element::new(
         TemplateElement::RawString(RawString {
-            start: start,
+            start,
             end: s.end,
             escapes: s.number + 1,
-            front: raw_front(m),
+            front: raw_front(v.marks),
             back: Back::Kept,
         }),
         place,
@@ -253,52 +208,55 @@ fn text_of(v: View, s: Span, start: usize, place: Place) -> Element
 }
 
 // The step of a text; behind it this stage and this line mark.
-fn text_step(v: View, s: Span, start: usize, here: Here, stage: Stage, line: bool) -> Visit
+fn text_step(v: View, s: Span, start: usize, here: Here, stage: Stage, line: bool) -> Step
     requires { s.number < max_spans }
-    ensures { result ≡ Visit.Step (text_step v s here start stage line) }
+    ensures { result ≡ text_step v s here start stage line }
 {
-    let m = v.marks;
-    step_as(
-        false,
-        Element::EMPTY,
-        Back::Kept,
-        Act::Add(text_of(v, s, start, here.place), Added::Leaf),
-        Marks {
-            stage: stage,
+    Step {
+        gap: None,
+        back: Back::Kept,
+        act: Act::Add(text_of(v, s, start, here.place), Added::Leaf),
+        marks: Marks {
+            stage,
             end_pos: s.end,
             started: true,
-            omit_pro_ws: m.omit_pro_ws,
             trim_line_required: line,
+            ..v.marks
         },
         here,
-        s.number + 1,
-    )
+        next: s.number + 1,
+    }
 }
 
 // The text of tag 2 begins at the previous end.
-fn raw_string(text: &[u8], words: &[u32], v: View, s: Span, here: Here) -> Visit
+fn raw_string(text: &[u8], words: &[u32], v: View, s: Span, here: Here) -> Result<Step, Refusal>
     requires tag_is { s.tag ≡ 2 }
     requires counted { s.number < max_spans }
     ensures { (o : Options) (gap : Bool) → KindIs text.now words.now o v s gap here result }
 {
-    let m = v.marks;
-    if bad_escapes(text, words, m.end_pos, s.end, s.number + 1) {
-        return refused(13, s.number);
+    let start = v.marks.end_pos;
+    if bad_escapes(text, words, start, s.end, s.number + 1) {
+        return Err(Refusal {
+            reason: Reason::BadEscape,
+            place: s.number,
+        });
     }
-    text_step(v, s, m.end_pos, here, Stage::Filling, false)
+    Ok(text_step(v, s, start, here, Stage::Filling, false))
 }
 
 // That of tag 3 is its own span; a raw body takes nothing more.
-fn raw_block_text(text: &[u8], words: &[u32], v: View, s: Span, here: Here) -> Visit
+fn raw_block_text(text: &[u8], words: &[u32], v: View, s: Span, here: Here) -> Result<Step, Refusal>
     requires tag_is { s.tag ≡ 3 }
     requires counted { s.number < max_spans }
     ensures { (o : Options) (gap : Bool) → KindIs text.now words.now o v s gap here result }
 {
-    let m = v.marks;
     if bad_escapes(text, words, s.start, s.end, s.number + 1) {
-        return refused(13, s.number);
+        return Err(Refusal {
+            reason: Reason::BadEscape,
+            place: s.number,
+        });
     }
-    text_step(v, s, s.start, here, Stage::Full, m.trim_line_required)
+    Ok(text_step(v, s, s.start, here, Stage::Full, v.marks.trim_line_required))
 }
 
 // An empty line starts after the tag, or nothing at all follows and it is no partial.
@@ -331,8 +289,7 @@ fn process_standalone_statement(
     if !with_trailing_newline(text, starts, s.end, is_partial) {
         return false;
     }
-    let start = s.start;
-    ends[start]
+    ends[s.start]
 }
 
 // How the last text is trimmed: by a left tilde, or by the standalone test.
@@ -371,33 +328,31 @@ fn comment(
     s: Span,
     gap: bool,
     here: Here,
-) -> Visit
+) -> Step
     requires first_tag { 19 ≤ s.tag }
     requires last_tag { s.tag ≤ 20 }
     requires counted { s.number < max_spans }
     requires lines { LinesAre text.now starts.now ends.now }
     requires fits { SpanFits text.now s }
-    ensures { KindIs text.now words.now o v s gap here result }
+    ensures { KindIs text.now words.now o v s gap here (Ok result) }
 {
     let m = v.marks;
-    let g = m.stage;
     let standalone = process_standalone_statement(text, starts, ends, s, o.is_partial);
     let e = comment_of(s, here.place);
-    step_as(
-        gap,
-        gap_of(words, m, s, here.place),
-        trim_of(false, standalone),
-        Act::Add(e, Added::Leaf),
-        Marks {
-            stage: stage_after_gap(g, gap),
+    Step {
+        gap: gap_of(words, m, s, here.place, gap),
+        back: trim_of(false, standalone),
+        act: Act::Add(e, Added::Leaf),
+        marks: Marks {
+            stage: stage_after_gap(m.stage, gap),
             end_pos: s.end,
             started: true,
-            omit_pro_ws: m.omit_pro_ws,
             trim_line_required: standalone,
+            ..m
         },
         here,
-        s.number + 1,
-    )
+        next: s.number + 1,
+    }
 }
 
 fn helper(x: TagExpression, s: Span, indent: bool) -> HelperTemplate
@@ -417,8 +372,7 @@ fn decorator(x: TagExpression, s: Span, mark: bool, indent: bool) -> DecoratorTe
         from: x.from,
         limit: s.end,
         indent_before_write: mark,
-        indent: indent,
-        start: s.start,
+        indent: indent.then_some(s.start),
     }
 }
 
@@ -428,8 +382,7 @@ fn element_of(s: Span, x: TagExpression, mark: bool, indent: bool) -> TemplateEl
 {
     let h = helper(x, s, mark);
     let d = decorator(x, s, mark, indent);
-    let tag = s.tag;
-    match tag {
+    match s.tag {
         5..=6 => TemplateElement::HelperBlock(h),
         7 => TemplateElement::DecoratorBlock(d),
         8 => TemplateElement::PartialBlock(d),
@@ -523,28 +476,25 @@ fn step_of(
     x: TagExpression,
     gap: bool,
     here: Here,
-) -> Visit
+) -> Step
     requires first_tag { 5 ≤ s.tag }
     requires last_tag { s.tag ≤ 18 }
     requires lines { LinesAre text.now starts.now ends.now }
     requires fits { SpanFits text.now s }
-    ensures { TagStepIs text.now words.now o v s x gap here result }
+    ensures { TagMakes text.now words.now o v s x gap here result }
 {
     let m = v.marks;
-    let g = m.stage;
     let standalone = process_standalone_statement(text, starts, ends, s, o.is_partial);
     let line = but_not(m.trim_line_required, gap);
     let mark = but_not(standalone, x.omit_pre_ws);
     let indent = is_indented(s.tag, o.prevent_indent, x.omit_pre_ws);
     let cut = is_cut(s.tag, standalone, o.prevent_indent);
-    let name = x.name;
-    let e = Element::named(element_of(s, x, mark, indent), name, here.place);
-    step_as(
-        gap,
-        gap_of(words, m, s, here.place),
-        trim_of(x.omit_pre_ws, cut),
-        act_of(s.tag, e),
-        Marks {
+    let e = Element::named(element_of(s, x, mark, indent), x.name, here.place);
+    Step {
+        gap: gap_of(words, m, s, here.place, gap),
+        back: trim_of(x.omit_pre_ws, cut),
+        act: act_of(s.tag, e),
+        marks: Marks {
             stage: stage_of(s.tag),
             end_pos: s.end,
             started: true,
@@ -552,24 +502,24 @@ fn step_of(
             trim_line_required: line_mark(s.tag, standalone, line),
         },
         here,
-        x.next,
-    )
+        next: x.next,
+    }
 }
 
-// 12, 10 or 11, in this order, or 0 for none.
-fn refusal_of(text: &[u8], tag: u32, count: usize, opened: AsName, end: AsName) -> u32
+// 12, 10 or 11, in this order.
+fn refusal_of(text: &[u8], tag: u32, count: usize, opened: AsName, end: AsName) -> Option<Reason>
     ensures { RefusalIs text.now tag count opened end result }
 {
     if too_many_open(tag, count) {
-        return 12;
+        return Some(Reason::OverLimit);
     }
     if helper_name_differs(text, tag, opened, end) {
-        return 10;
+        return Some(Reason::HelperName);
     }
     if decorator_name_differs(text, tag, opened, end) {
-        return 11;
+        return Some(Reason::DecoratorName);
     }
-    0
+    None
 }
 
 // 8, 9 and 12 as met, open blocks last; 10, 11.
@@ -583,7 +533,7 @@ fn tagged(
     s: Span,
     gap: bool,
     here: Here,
-) -> Visit
+) -> Result<Step, Refusal>
     requires first_tag { 5 ≤ s.tag }
     requires last_tag { s.tag ≤ 18 }
     requires counted { s.number < span_count words.now }
@@ -591,18 +541,20 @@ fn tagged(
     requires fits { SpanFits text.now s }
     ensures { KindIs text.now words.now o v s gap here result }
 {
-    let r = read_tag(text, words, s);
-    match r {
-        TagRead::Failed(f) => refused(fault_number(f), fault_place(span_count(words), s, f)),
-        TagRead::Done(x) => {
-            let name = x.name;
-            let end = name.as_name();
-            let opened = v.name;
-            let n = refusal_of(text, s.tag, v.count, opened, end);
-            if n != 0 {
-                return refused(n, s.number);
+    match read_tag(text, words, s) {
+        Err(f) => Err(Refusal {
+            reason: Reason::from(f),
+            place: fault_place(span_count(words), s, f),
+        }),
+        Ok(x) => {
+            let end = x.name.as_name();
+            if let Some(reason) = refusal_of(text, s.tag, v.count, v.name, end) {
+                return Err(Refusal {
+                    reason,
+                    place: s.number,
+                });
             }
-            step_of(text, starts, ends, words, o, v, s, x, gap, here)
+            Ok(step_of(text, starts, ends, words, o, v, s, x, gap, here))
         }
     }
 }
@@ -618,7 +570,7 @@ fn visit_kind(
     s: Span,
     gap: bool,
     here: Here,
-) -> Visit
+) -> Result<Step, Refusal>
     requires counted { s.number < span_count words.now }
     requires count_fits { span_count words.now ≤ max_spans }
     requires no_escape { (s.tag ≡ 4 → ⊥) }
@@ -626,18 +578,17 @@ fn visit_kind(
     requires fits { SpanFits text.now s }
     ensures { KindIs text.now words.now o v s gap here result }
 {
-    let tag = s.tag;
-    match tag {
-        1 => template(v, s),
+    match s.tag {
+        1 => Ok(template(v, s)),
         2 => raw_string(text, words, v, s, here),
         3 => raw_block_text(text, words, v, s, here),
         5..=18 => tagged(text, starts, ends, words, o, v, s, gap, here),
-        19..=20 => comment(text, starts, ends, words, o, v, s, gap, here),
-        _ => skipped(words, v, s, gap, here),
+        19..=20 => Ok(comment(text, starts, ends, words, o, v, s, gap, here)),
+        _ => Ok(skipped(words, v, s, gap, here)),
     }
 }
 
-// The walked span at the cursor: 6, 7, and then by its tag.
+// The walked span at the cursor: 6, 7, and then by its tag; none at the end of the list.
 pub(crate) fn visit_span(
     text: &[u8],
     starts: &[bool],
@@ -646,26 +597,29 @@ pub(crate) fn visit_span(
     o: Options,
     v: View,
     at: usize,
-) -> Visit
+) -> Result<Option<Step>, Refusal>
     requires good { Good text.now words.now }
     requires lines { LinesAre text.now starts.now ends.now }
     ensures { VisitIs text.now words.now o v at result }
 {
-    let n = next_span(words, at);
-    let Next::Span(s) = n else {
-        return Visit::End;
+    let Next::Span(s) = next_span(words, at) else {
+        return Ok(None);
     };
     let m = v.marks;
     if s.start < m.end_pos {
-        return refused(6, s.number);
+        return Err(Refusal {
+            reason: Reason::OutOfOrder,
+            place: s.number,
+        });
     }
     let gap = kept_gap(m, s);
-    let g = m.stage;
-    let opened = v.opened;
-    if !nests(g, opened, v.inverted, s.tag, gap) {
-        return refused(7, s.number);
+    if !nests(m.stage, v.opened, v.inverted, s.tag, gap) {
+        return Err(Refusal {
+            reason: Reason::BadNesting,
+            place: s.number,
+        });
     }
-    let before = v.here;
-    let here = advance(text, before, s.start);
-    visit_kind(text, starts, ends, words, o, v, s, gap, here)
+    let here = advance(text, v.here, s.start);
+    let step = visit_kind(text, starts, ends, words, o, v, s, gap, here)?;
+    Ok(Some(step))
 }

@@ -6,20 +6,20 @@ ghost use Rattle.template.specs.Lines.{LinesAre};
 ghost use Rattle.template.specs.Turn.{LookIs};
 ghost use Rattle.template.specs.Finish.{unfinished_at, RestIs, walk_listing, BufferedIs};
 
-use crate::compile::Answer;
 use crate::element::{Back, Element, Front, RawString, TemplateElement};
 use crate::frame::{Frame, Marks};
 use crate::reason::is_filling;
+use crate::refusal::{Reason, Refusal};
 use crate::tree::write_tree;
 use crate::turn::{Standing, join, take_gap, take_turn};
-use crate::visit::{Act, Here, Options, Step, View, Visit, visit_span};
+use crate::visit::{Act, Here, Options, Step, View, visit_span};
 use expression::parameter::AsName;
 use json_path::span::span_count;
 use support::bytes::part;
 use support::position::line_col;
 
 // A turn's visit; while a block closes, nothing is visited.
-pub(crate) fn look(
+fn look(
     text: &[u8],
     starts: &[bool],
     ends: &[bool],
@@ -28,47 +28,50 @@ pub(crate) fn look(
     v: View,
     at: usize,
     closing: bool,
-) -> Visit
+) -> Result<Option<Step>, Refusal>
     requires good { Good text.now words.now }
     requires lines { LinesAre text.now starts.now ends.now }
     ensures { LookIs text.now words.now o v at closing result }
 {
     if closing {
-        Visit::Step(Step {
-            gapped: false,
-            gap: Element::EMPTY,
+        Ok(Some(Step {
+            gap: None,
             back: Back::Kept,
             act: Act::Skip,
             marks: v.marks,
             here: v.here,
             next: at,
-        })
+        }))
     } else {
         visit_span(text, starts, ends, words, o, v, at)
     }
 }
 
 // 7 at the end of the list.
-pub(crate) fn unfinished(text: &[u8], m: Marks, depth: usize) -> bool
+fn unfinished(text: &[u8], m: Marks, depth: usize) -> bool
     ensures { result ≡ unfinished_at text.now m depth }
 {
     !is_filling(m.stage) || 0 < depth || m.end_pos < text.len() && !m.started
 }
 
-// The text after the last previous end.
-pub(crate) fn rest_of(text: &[u8], words: &[u32], m: Marks, h: Here) -> Element
+// The text after the last previous end, if there is any.
+fn rest_of(text: &[u8], words: &[u32], m: Marks, h: Here) -> Option<Element>
     ensures { RestIs text.now words.now m h result }
 {
-    Element::new(
-        TemplateElement::RawString(RawString {
-            start: m.end_pos,
-            end: text.len(),
-            escapes: span_count(words),
-            front: Front::Kept,
-            back: Back::Kept,
-        }),
-        line_col(h.place, part(text, h.at, m.end_pos)),
-    )
+    if m.end_pos < text.len() {
+        Some(Element::new(
+            TemplateElement::RawString(RawString {
+                start: m.end_pos,
+                end: text.len(),
+                escapes: span_count(words),
+                front: Front::Kept,
+                back: Back::Kept,
+            }),
+            line_col(h.place, part(text, h.at, m.end_pos)),
+        ))
+    } else {
+        None
+    }
 }
 
 // Each turn visits a span, or closes a block. At the end of the list the text that is left joins the root's
@@ -81,7 +84,7 @@ pub(crate) fn walk<const N: usize>(
     words: &[u32],
     o: Options,
     out: &mut [u8],
-) -> Answer
+) -> Result<usize, Refusal>
     requires good { Good text.now words.now }
     requires lines { LinesAre text.now starts.now ends.now }
     requires few { 2 * span_count words.now < N }
@@ -100,18 +103,20 @@ pub(crate) fn walk<const N: usize>(
             count: b.count,
             here: b.here,
         };
-        match look(text, starts, ends, words, o, v, b.at, b.closing) {
-            Visit::Refused(r) => return Answer::Refused(r.number, r.place),
-            Visit::End => break,
-            Visit::Step(s) => b = take_turn(&mut elements, &mut levels, b, s),
+        match look(text, starts, ends, words, o, v, b.at, b.closing)? {
+            None => break,
+            Some(s) => b = take_turn(&mut elements, &mut levels, b, s),
         }
     }
     if unfinished(text, b.marks, b.depth) {
-        return Answer::Refused(7, span_count(words));
+        return Err(Refusal {
+            reason: Reason::BadNesting,
+            place: span_count(words),
+        });
     }
     let rest = rest_of(text, words, b.marks, b.here);
-    let g = take_gap(b.marks.end_pos < text.len(), rest, b.len);
+    let g = take_gap(rest, b.len);
     elements[b.len] = g.made;
     let top = join(&mut elements, b.top, g.join);
-    Answer::Listed(write_tree(out, text, words, &elements, top.first))
+    Ok(write_tree(out, text, words, &elements, top.first))
 }

@@ -1,6 +1,6 @@
--- By the contracts of `compile2` and `told_of`. Assumes nothing.
+-- By the contracts of `compile2` and `from`. Assumes nothing.
 use Rattle.ccompile.proofs.Telling.{told}
 use Rattle.ccompile.proofs.havzeltis_compile2.Goals as goal
 
 pub returns : goal.returns
-returns c = told c.compile2.ensures c.told_of.ensures
+returns c = told c.compile2.ensures c.from.ensures

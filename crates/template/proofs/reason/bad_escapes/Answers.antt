@@ -11,18 +11,18 @@ loop-x-init c = record { same = refl }
 pub returns-in_default : goal.returns-in_default
 returns-in_default c =
     let loop = c.loop-x in
-    laws.escaping_none loop.invariant (cases.escape_none c.in_default.is c.escape_at-e.ensures)
+    laws.escaping_none loop.invariant (cases.escape_none c.in_default.is c.escape_at.ensures)
 
 pub returns-then-limit-x : goal.returns-then-limit-x
 returns-then-limit-x c =
     let loop = c.loop-x in
-    let escape_at = c.escape_at-e in
+    let escape_at = c.escape_at in
     laws.escaping_past loop.invariant (cases.escape_found c.in-Found.is escape_at.ensures) c.if-limit-x.true
 
 pub returns-then-bad_escape : goal.returns-then-bad_escape
 returns-then-bad_escape c =
     let loop = c.loop-x in
-    let escape_at = c.escape_at-e in
+    let escape_at = c.escape_at in
     laws.escaping_bad loop.invariant (cases.escape_found c.in-Found.is escape_at.ensures) c.if-limit-x.false
     c.bad_escape.ensures c.if-bad_escape.true
 
@@ -36,20 +36,20 @@ overflow_add-least c =
 
 pub overflow_add-k : goal.overflow_add-k
 overflow_add-k c =
-    let escape_at = c.escape_at-e in
+    let escape_at = c.escape_at in
     let good = c.well_formed in
     let w = (cases.escape_found c.in-Found.is escape_at.ensures) in
     omega (arith, good)
 
 pub loop-x-smaller : goal.loop-x-smaller
 loop-x-smaller c =
-    let escape_at = c.escape_at-e in
+    let escape_at = c.escape_at in
     let w = (cases.escape_found c.in-Found.is escape_at.ensures) in
     omega arith
 
 pub loop-x-preserved : goal.loop-x-preserved
 loop-x-preserved c =
     let loop = c.loop-x in
-    let escape_at = c.escape_at-e in
+    let escape_at = c.escape_at in
     laws.escaping_on loop.invariant (cases.escape_found c.in-Found.is escape_at.ensures) c.if-limit-x.false c.bad_escape.ensures
     c.if-bad_escape.false

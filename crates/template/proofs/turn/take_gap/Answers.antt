@@ -1,11 +1,11 @@
--- By the test of the gap. Assumes nothing.
+-- By the two cases of the gap. Assumes nothing.
 use Rattle.template.specs.Turn.{gapped_of}
 use Rattle.template.proofs.turn.take_gap.Goals as goal
 
-pub returns-then-kept : goal.returns-then-kept
+pub returns-in-Some : goal.returns-in-Some
 unfolding gapped_of
-returns-then-kept c = rw c.if-kept.true
+returns-in-Some c = rw c.in-Some.is
 
-pub returns-else-kept : goal.returns-else-kept
+pub returns-in-None : goal.returns-in-None
 unfolding gapped_of
-returns-else-kept c = rw c.if-kept.false
+returns-in-None c = rw c.in-None.is

@@ -12,10 +12,10 @@ pub returns-then-bad_escapes : goal.returns-then-bad_escapes
 returns-then-bad_escapes c =
     let a = c.args in
     λ o gap. laws.text_bad a.text.now a.words.now o a.v a.s a.here {gap = gap} a.v.marks.end_pos c.requires.tag_is refl
-    (sym c.bad_escapes.ensures ∙ c.if-bad_escapes.true) c.refused.ensures
+    (sym c.bad_escapes.ensures ∙ c.if-bad_escapes.true)
 
 pub returns : goal.returns
 returns c =
     let a = c.args in
-    λ o gap. laws.kind_as a.text.now a.words.now o a.v a.s a.here c.text_step.ensures
+    λ o gap. rw c.text_step.ensures
     (laws.text_step_lem a.text.now a.words.now o a.v a.s a.here a.v.marks.end_pos {gap = gap} c.requires.tag_is refl (sym c.bad_escapes.ensures ∙ c.if-bad_escapes.false))

@@ -3,7 +3,7 @@ use native.Mathlib.Omega.{arith}
 use Rattle.template.proofs.TagKinds as kinds
 use Rattle.template.proofs.StepParts as parts
 use Rattle.template.proofs.visit.visit_kind.Goals as goal
-use Rattle.template.proofs.visit.visit_kind.Goals.{in_default-via-then-tag-lt5, in_default-via-else-tag-lt5+else-tag-lt19+else-tag-lt21}
+use Rattle.template.proofs.visit.visit_kind.Goals.{in_default-via-then-s-lt5, in_default-via-else-s-lt5+else-s-lt19+else-s-lt21}
 
 pub tagged-requires : goal.tagged-requires
 tagged-requires c =
@@ -20,8 +20,8 @@ skipped-requires c =
     let a = c.args in
     record {
       kind = elim c.in_default.branch [
-        | in_default-via-then-tag-lt5 w ↦ parts.skipped_low a.s.tag (omega arith) (λ h. omega arith) (λ h. omega arith) (λ h. omega arith) c.requires.no_escape
-        | in_default-via-else-tag-lt5+else-tag-lt19+else-tag-lt21 w ↦ kinds.kind_skipped a.s.tag (omega arith)
+        | in_default-via-then-s-lt5 w ↦ parts.skipped_low a.s.tag (omega arith) (λ h. omega arith) (λ h. omega arith) (λ h. omega arith) c.requires.no_escape
+        | in_default-via-else-s-lt5+else-s-lt19+else-s-lt21 w ↦ kinds.kind_skipped a.s.tag (omega arith)
       ];
       counted = c.requires.counted;
     }
