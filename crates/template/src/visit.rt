@@ -560,6 +560,7 @@ fn tagged(
 }
 
 // What is decided of a span behind 6 and 7, by its tag.
+// Stays: a tag is a number, since document 01 has one match over the tag number, with ranges.
 fn visit_kind(
     text: &[u8],
     starts: &[bool],
