@@ -1,6 +1,6 @@
 -- What C is told: an answer as two numbers, and what the output is after the call.
 use Rattle.std.specs.Prelude.{ℕ, ◌≡◌, ◌++◌, Ok, Err, length, drop}
-use Rattle.std.specs.declared.result.Result as code
+use Rattle.std.specs.declared.result.Result as rattle
 use Rattle.support.specs.Bytes.{Bytes}
 use Rattle.template.specs.Result.{Result, accepted, refused}
 use Rattle.template.specs.Numbers.{reason_number}
@@ -29,6 +29,6 @@ pub record ToldIs (x : Result Bytes) (l m : Bytes) (r : Told) : Type 0 where
   pub output : m ≡ output_of x l
 
 -- an answer of `compile2` as two numbers
-abbrev pub told_of : code.Result ℕ Refusal → Told
+abbrev pub told_of : rattle.Result ℕ Refusal → Told
 told_of (Ok n) = record { number = 0; value = n }
 told_of (Err f) = record { number = reason_number f.reason; value = f.place }

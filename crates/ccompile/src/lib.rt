@@ -10,6 +10,7 @@ use template::compile::compile2;
 use template::refusal::Refusal;
 
 // The number 0 and the listing's length, or a number from 1 to 14 and a place.
+// Stays: two numbers, since C reads them.
 #[repr(C)]
 #[derive(Clone, Copy)]
 pub struct Told {

@@ -7,6 +7,7 @@ use mathlib.Core.Option.{Option}
 use lib.ListN.{length, take}
 use native.Mathlib.Nat.{sub-zero}
 use borrow.Author.Tests.{eq-eqb, ne_eqb}
+use Rattle.std.specs.Prelude.{Some, None}
 use Rattle.support.specs.Bytes.{Bytes, ascii, part}
 use Rattle.support.specs.TextRules.{trailing_blanks, comment_compact_text, comment_text}
 use Rattle.support.specs.Position.{Place}
@@ -34,9 +35,9 @@ use Rattle.template.specs.declared.element.Element.{Element}
 -- ---- fields
 
 -- the indent, from its blanks
-indented : (text : Bytes) (d : DecoratorTemplate) {s t : Bytes} → d.indent ≡ true → s ≡ part text 0 d.start → t ≡ trailing_blanks s
+indented : (text : Bytes) (d : DecoratorTemplate) {n : ℕ} {s t : Bytes} → d.indent ≡ Some n → s ≡ part text 0 n → t ≡ trailing_blanks s
     → indent_means text [] d ≡ any_blanks t
-indented text d e f g = rw e (ap (λ n. any_blanks (trailing_blanks (take n text))) (sym (sub-zero d.start)) ∙ ap (λ u. any_blanks (trailing_blanks u)) (sym f) ∙ ap any_blanks (sym g))
+indented text d {n} e f g = rw e (ap (λ i. any_blanks (trailing_blanks (take i text))) (sym (sub-zero n)) ∙ ap (λ u. any_blanks (trailing_blanks u)) (sym f) ∙ ap any_blanks (sym g))
 
 module _ {l m : Bytes} {at r : ℕ} where
   pub place_none : (p : code.Place) → p.line ≡ 0 → Written (ascii "-") l at m r → Written (write_field (place_field (place_means p))) l at m r
@@ -66,11 +67,11 @@ module _ {l m : Bytes} {at r : ℕ} where
     comment_plain e f g w = rw (e, ← f, ← g) w
 
   module _ (text : Bytes) (d : DecoratorTemplate) where
-    pub indent_off : d.indent ≡ false → Written (ascii " -") l at m r → Written (ascii " " ++ write_field (indent_field (indent_means text [] d))) l at m r
+    pub indent_off : d.indent ≡ None → Written (ascii " -") l at m r → Written (ascii " " ++ write_field (indent_field (indent_means text [] d))) l at m r
     unfolding write_field
     indent_off e w = rw e w
 
-    module _ {s t : Bytes} (e : d.indent ≡ true) (f : s ≡ part text 0 d.start) (g : t ≡ trailing_blanks s) where
+    module _ {n : ℕ} {s t : Bytes} (e : d.indent ≡ Some n) (f : s ≡ part text 0 n) (g : t ≡ trailing_blanks s) where
       pub indent_none : length t ≡ 0 → Written (ascii " -") l at m r → Written (ascii " " ++ write_field (indent_field (indent_means text [] d))) l at m r
       unfolding write_field
       indent_none h w = rw (indented text d e f g, no_bytes t h) w

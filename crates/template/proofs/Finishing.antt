@@ -25,13 +25,13 @@ use Rattle.template.specs.State.{body_of}
 use Rattle.template.specs.Escapes.{escapes_to, bad_escapes, unescaped}
 use Rattle.template.specs.Element.{Good, RawGood, raw_means, item_means, place_means, new_element, named_element, empty_element}
 use Rattle.template.specs.Element as role
-use Rattle.template.specs.Store.{element_at, Is, Chain, Holds}
+use Rattle.template.specs.Store.{element_at, Is, Chain, Holds, Stored}
 use Rattle.template.specs.Visit.{HereIs, leaf_means, Made, GapMade}
 use Rattle.template.specs.Links.{followed_by}
-use Rattle.template.specs.Turn.{filled, joined_of, gapped_of}
-use Rattle.template.specs.Finish.{rest_text, RestMade, RestMeans, RestIs, walk_listing, BufferedIs}
-use Rattle.listing.specs.Listing.{write, listing}
-use Rattle.listing.specs.Written.{largest, Written}
+use Rattle.template.specs.Turn.{filled, joined_of, gapped_of, Joined, JoinedIs}
+use Rattle.template.specs.Finish.{rest_text, RestMade, RestMeans, RestIs, walk_listing, BufferedIs, TreeIs}
+use Rattle.listing.specs.Listing.{listing}
+use Rattle.listing.specs.Written.{Written}
 use Rattle.template.specs.Result.{accepted}
 use Rattle.template.specs.declared.element.Front.TheVariants as Front
 use Rattle.template.specs.declared.element.Back.TheVariants as Back
@@ -41,7 +41,6 @@ use Rattle.template.specs.declared.frame.Frame.{Frame}
 use Rattle.template.specs.declared.frame.Marks.{Marks}
 use Rattle.template.specs.declared.visit.Here.{Here}
 use Rattle.template.specs.declared.visit.Options.{Options}
-use Rattle.template.specs.declared.turn.Joined.{Joined}
 use Rattle.template.specs.declared.turn.Gapped.{Gapped}
 use Rattle.template.proofs.Store.{Linked, frame, join_open, ends_below, at_same, at_other}
 use Rattle.template.proofs.Nesting.{tree_of, tree_add}
@@ -196,15 +195,16 @@ module _ (text : Bytes) (words : List ℕ) (st : List Element) (x : Frame) (len 
 
 -- ---- the listing of the whole
 
--- at the end of the list the element of the text that is left was made, and joined the root's body
-pub record Rested (text : Bytes) (words : List ℕ) (o : Options) (st : List Element) (x : Frame) (len : ℕ) (m : Marks) (h : Here) (r : Option Element) (g : Gapped) (y : Joined) : Type 0 where
+-- at the end of the list the element of the text that is left was made
+pub record Rested (text : Bytes) (words : List ℕ) (o : Options) (st : List Element) (x : Frame) (len : ℕ) (m : Marks) (h : Here) (r : Option Element) (g : Gapped) : Type 0 where
   pub good : Good text words
   pub end : Ended text words o st x len m h
   pub is : RestIs text words m h r
   pub gap : g ≡ gapped_of r len
-  pub joined : y ≡ joined_of x (element_at (set st len g.made) x.last) g.join
 
-module _ {text : Bytes} {words : List ℕ} {o : Options} {st : List Element} {x : Frame} {len : ℕ} {m : Marks} {h : Here} {r : Option Element} {g : Gapped} {y : Joined} (e : Rested text words o st x len m h r g y) where
+-- and joined the root's body
+module _ {text : Bytes} {words : List ℕ} {o : Options} {st : List Element} {x : Frame} {len : ℕ} {m : Marks} {h : Here} {r : Option Element} {g : Gapped} (e : Rested text words o st x len m h r g)
+    {st' : List Element} {y : Frame} (j : JoinedIs (set st len g.made) x g.join st' y) where
   -- it was made, or no text is left
   rest_kept : (r : Option Element) → RestMeans text words m h r → GapMade text words r
   rest_kept (Some i) q = rest_made text words m h i e.good q e.end.here
@@ -214,19 +214,17 @@ module _ {text : Bytes} {words : List ℕ} {o : Options} {st : List Element} {x 
   rest_joined (Some i) q = rw (lt-ltb m.end_pos (length text) q.left) (ap (λ (k : Elem). k ∷ e.end.elems) (rest_means_lem text words m h i e.good q e.end.here))
   rest_joined None q = rw (le-ltb m.end_pos (length text) q)
 
-  pub ended_holds : Holds text words (set (set st len g.made) x.last y.last) y.top.first (tree_of (rest_of text words m e.end.elems))
+  ended_holds : Holds text words st' y.first (tree_of (rest_of text words m e.end.elems))
   ended_holds =
-      subst (λ (es : List Elem). Holds text words (set (set st len g.made) x.last y.last) y.top.first (tree_of es)) (rest_joined r e.is.means)
-      (root_joined text words st x len e.end.elems e.end.root r (rest_kept r e.is.means) g e.gap x.last refl y e.joined)
+      rw (j.store, j.top, ← rest_joined r e.is.means)
+      (root_joined text words st x len e.end.elems e.end.root r (rest_kept r e.is.means) g e.gap x.last refl _ refl)
 
-  pub ended_long : length (set (set st len g.made) x.last y.last) ≡ length st
-  ended_long = length-set (set st len g.made) x.last y.last ∙ length-set st len g.made
+  pub ended_stored : Stored text words st' y.first
+  ended_stored = record { body = _; holds = ended_holds }
 
-  -- where every body that is held there was listed
-  pub ended_answer : {l k : Bytes} {q : ℕ} → q < largest
-      → ((b : T.Body) → Holds text words (set (set st len g.made) x.last y.last) y.top.first b → Written (write b) l 0 k q)
-      → BufferedIs (walk_listing text words o) l k (Ok q)
+  -- where the tree is listed
+  pub ended_answer : {l k : Bytes} {q : ℕ} → TreeIs text words st' y.first l k q → BufferedIs (walk_listing text words o) l k (Ok q)
   unfolding listing
-  ended_answer {l} {k} {q} short w =
-      let v : Written (listing (body_of (rest_of text words m e.end.elems))) l 0 k q = w _ ended_holds in
+  ended_answer {l} {k} {q} t =
+      let v : Written (listing (body_of (rest_of text words m e.end.elems))) l 0 k q = t.lists _ ended_holds in
       record { means = record { bytes = _; answer = e.end.answer; count = omega (arith, v.next); stored = v.stored } }

@@ -6,7 +6,7 @@ use mathlib.Core.Path.{◌≡◌, refl, ap, sym, subst, ◌∙◌}
 use mathlib.Core.Bool.{Bool, true, false}
 use mathlib.Core.Logic.{◌⊎◌, inl, inr}
 use mathlib.Core.List.{List, [], ◌∷◌}
-use lib.ListN.{set}
+use lib.ListN.{length, set}
 use Rattle.std.specs.Prelude.{Option, Some, None, Ok, Err}
 use Rattle.std.specs.declared.result.Result as rattle
 use Rattle.support.specs.Bytes.{Bytes}
@@ -20,7 +20,7 @@ use Rattle.template.specs.Element.{back_trim}
 use Rattle.template.specs.Store.{element_at}
 use Rattle.template.specs.Links.{trim_end_of}
 use Rattle.template.specs.Visit.{with_marks, MarksAre, HereIs, Tells, gap_effect, trim_effect, act_effect, applied, Allowed, GapMade, StepIs, VisitMeans}
-use Rattle.template.specs.Turn.{ref_chain_head, plan_of, turn_of, joined_of, gapped_of, still_step, LookIs}
+use Rattle.template.specs.Turn.{ref_chain_head, plan_of, turn_of, joined_of, gapped_of, still_step, LookIs, Joined, gap_made, gap_joined, text_trimmed, owner_at, act_planned, TurnFits, TurnIs}
 use Rattle.template.specs.declared.element.Back.{Back}
 use Rattle.template.specs.declared.element.Element.{Element}
 use Rattle.template.specs.declared.frame.Frame.{Frame}
@@ -36,8 +36,8 @@ use Rattle.template.specs.declared.visit.Step.{Step}
 use Rattle.template.specs.declared.refusal.Refusal.{Refusal}
 use Rattle.template.specs.declared.turn.Turn.{Turn}
 use Rattle.template.specs.declared.turn.Plan.{Plan}
-use Rattle.template.specs.declared.turn.Joined.{Joined}
 use Rattle.template.specs.declared.turn.Gapped.{Gapped}
+use Rattle.template.specs.declared.turn.Standing.{Standing}
 use Rattle.template.proofs.Levels.{frame_at}
 use Rattle.template.proofs.Turns.{open_at, Counted, Kept, Turned, act_turned, close_turned}
 use Rattle.template.proofs.Fits.{fits_low, fits_last, owner_in, deep}
@@ -344,3 +344,46 @@ module _ {text : Bytes} {words : List ℕ} {o : Options} {n : ℕ} {st : List El
           within = grown.1;
           enough = held.enough;
         }
+
+-- ---- the turn as one
+
+-- what the loop keeps where the walk stands
+abbrev pub HeldAt : Bytes → List ℕ → Options → ℕ → List Element → List Frame → Standing → Type 0
+HeldAt text words o n st lv b = Held text words o n st lv b.top b.marks b.here b.depth b.len b.count b.closing b.at
+
+module _ {text : Bytes} {words : List ℕ} {o : Options} {n : ℕ} {st : List Element} {lv : List Frame} {b : Standing} (held : HeldAt text words o n st lv b) {p : Step} (goes : Goes text words o b.at b.closing p held.now) where
+  gaps : Gaps held p (gap_made st lv b p)
+  gaps = record { goes = goes; made = refl }
+
+  joins : Joins held p (gap_made st lv b p) (gap_joined st lv b p)
+  joins = record { gaps = gaps; joined = refl }
+
+  trims : Trims held p (gap_made st lv b p) (gap_joined st lv b p) (text_trimmed st lv b p)
+  trims = record { joins = joins; trims = refl }
+
+  plans : Plans held p (gap_made st lv b p) (gap_joined st lv b p) (text_trimmed st lv b p) (owner_at st lv b p) (b.depth - 1) (turn_of b.closing (gap_joined st lv b p).top.head p.act) (act_planned st lv b p)
+  plans = record { ready = trims; owner = refl; below = refl; turns = refl; plan = refl }
+
+  pub turn_fits : n ≤ 8193 → TurnFits st lv b p
+  turn_fits few =
+      let long : length st ≡ n = held.kept.long in
+      record {
+        short = omega (arith, long, few);
+        wide = held.kept.wide;
+        len = omega (arith, long, held.within);
+        last = omega (arith, long, last_in held);
+        joined = omega (arith, long, joined_last joins);
+        owner = omega (arith, long, owner_near trims refl);
+        deep = (caps trims).0;
+        count = (caps trims).1;
+        room = omega (arith, long, room gaps);
+        slot = slot_near plans;
+        planned = omega (arith, long, planned_last plans);
+      }
+
+  module _ {st' : List Element} {lv' : List Frame} {b' : Standing} (t : TurnIs st lv b p st' lv' b') where
+    pub turn_held : HeldAt text words o n st' lv' b'
+    turn_held = rw (t.standing, t.frames, t.store) (next_held plans refl)
+
+    pub turn_less : 2 * (span_count words - b'.at) + b'.count < 2 * (span_count words - b.at) + b.count
+    turn_less = rw t.standing (less plans)

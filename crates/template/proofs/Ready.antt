@@ -22,12 +22,11 @@ use Rattle.template.specs.Store.{element_at, Chain}
 use Rattle.template.specs.Visit.{leaf_means, GapMade}
 use Rattle.template.specs.Links.{followed_by, trim_end_of}
 use Rattle.template.specs.Links as Links
-use Rattle.template.specs.Turn.{ref_chain_head, filled, joined_of, gapped_of}
+use Rattle.template.specs.Turn.{ref_chain_head, filled, joined_of, gapped_of, Joined}
 use Rattle.template.specs.declared.element.Back.{Back}
 use Rattle.template.specs.declared.element.TemplateElement.{TemplateElement}
 use Rattle.template.specs.declared.element.Element.{Element}
 use Rattle.template.specs.declared.frame.Frame.{Frame}
-use Rattle.template.specs.declared.turn.Joined.{Joined}
 use Rattle.template.specs.declared.turn.Gapped.{Gapped}
 use Rattle.template.proofs.Store.{Same, SameBut, Solo, Linked, join_open, retouch, ends_snoc, at_same, at_other}
 use Rattle.template.proofs.Nesting.{tree_of, tree_add}

@@ -11,6 +11,8 @@ use lib.ListN.{length, take, length-append}
 use mir.Val.{Val}
 use denote.Shadow.{shadow}
 use denote.Struct.Declared.{row}
+use Rattle.std.specs.Prelude.{Some, None}
+use Rattle.std.specs.declared.option.Option as rattle
 use Rattle.support.specs.Bytes.{Bytes, ascii, if}
 use Rattle.support.specs.Position.{place_of}
 use Rattle.support.specs.TextRules.{trailing_blanks}
@@ -20,7 +22,7 @@ use Rattle.listing.specs.Form.{Word, spell, write_field, write_head, nil, write_
 use Rattle.listing.specs.Listing.{bit, place_field, indent_field, call_forms, item_form}
 use Rattle.listing.specs.Children.{decorator_children, helper_children}
 use Rattle.template.specs.Step.{any_blanks}
-use Rattle.template.specs.Element.{Good, place_means, link_of, raw_means, comment_means, call_at, indent_means, item_means, head_means, wrap_means, role_of}
+use Rattle.template.specs.Element.{Good, place_means, link_of, raw_means, comment_means, call_at, blanks_before, indent_means, item_means, head_means, wrap_means, role_of}
 use Rattle.template.specs.Opening.{wrap_opening, decorated_bytes, opening_by, opening}
 use Rattle.template.specs.declared.element.HelperTemplate.{HelperTemplate}
 use Rattle.template.specs.declared.element.DecoratorTemplate.{DecoratorTemplate}
@@ -68,12 +70,15 @@ bit_short false = refl
 indent_short : (text : Bytes) (words : List ℕ) (d : DecoratorTemplate) → length text ≤ 16384
     → length (ascii " " ++ write_field (indent_field (indent_means text words d))) ≤ 33000
 unfolding write_field
-indent_short text words d h = go d.indent (trailing_blanks (take d.start text)) (blanks_short text d.start)
+indent_short text words d h = by_end d.indent
   where
-    go : (t : Bool) (u : Bytes) → length u ≤ length text → length (ascii " " ++ write_field (indent_field (if t (any_blanks u) none))) ≤ 33000
-    go false u g = omega arith
-    go true [] g = omega arith
-    go true (c ∷ u) g = omega (arith, quoted_short (c ∷ u))
+    go : (u : Bytes) → length u ≤ length text → length (ascii " " ++ write_field (indent_field (any_blanks u))) ≤ 33000
+    go [] g = omega arith
+    go (c ∷ u) g = omega (arith, quoted_short (c ∷ u))
+
+    by_end : (e : rattle.Option ℕ) → length (ascii " " ++ write_field (indent_field (blanks_before text words e))) ≤ 33000
+    by_end (Some n) = go (trailing_blanks (take n text)) (blanks_short text n)
+    by_end None = omega arith
 
 -- four pieces
 pieces : (a b c d : Bytes) → length (a ++ (b ++ (c ++ d))) ≡ length a + length b + length c + length d

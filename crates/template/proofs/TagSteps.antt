@@ -27,7 +27,7 @@ use Rattle.template.specs.State.{Level, level, State, state, owner_of, owner, op
 use Rattle.template.specs.Nests.{is_filling, is_of_kind, tag_nests, nests}
 use Rattle.template.specs.Refusal.{max_open, one_too_many, too_many_open}
 use Rattle.template.specs.Step.{any_blanks, after_gap, take_gap, remove_previous_whitespace, process_standalone, standalone, indent, owner_for, standalone_of, tag_trims, tag_effect, tag_step}
-use Rattle.template.specs.Element.{back_trim, call_at, block_at, indent_means, item_means, head_means, wrap_means, named_element}
+use Rattle.template.specs.Element.{back_trim, call_at, block_at, blanks_before, indent_means, item_means, head_means, wrap_means, named_element}
 use Rattle.template.specs.TagRead.{tag_means}
 use Rattle.template.specs.Visit.{stage_means, end_means, with_marks, leaf_means, gap_effect, trim_effect, act_effect, applied, Allowed}
 use Rattle.template.specs.Visiting.{Visited, TagMakes, gap_element, trim_of, cut_of, line_of, stage_behind, helper_of, decorator_of, element_for, act_for, indent_of, CutIs, LineIs, StageIs, ElementIs, ActIs, IndentIs}
@@ -149,13 +149,13 @@ module _ (text : Bytes) (words : List ℕ) (prevent is_partial : Bool) (s : Span
   read = tag_means text words s.end x
 
   no_indent : ind ≡ false → none ≡ indent_means text words (decorator_of x s mark ind)
-  no_indent i = ap (λ b. if b (any_blanks (trailing_blanks (take s.start text))) none) (sym i)
+  no_indent i = ap (λ b. blanks_before text words (if b (Some s.start) None)) (sym i)
 
   indent_as : ind ≡ (not prevent && not x.omit_pre_ws) → indent text prevent s read ≡ indent_means text words (decorator_of x s mark ind)
   unfolding indent
-  indent_as i = go prevent x.omit_pre_ws ∙ ap (λ b. if b (any_blanks (trailing_blanks (take s.start text))) none) (sym i)
+  indent_as i = go prevent x.omit_pre_ws ∙ ap (λ b. blanks_before text words (if b (Some s.start) None)) (sym i)
     where
-      go : (a b : Bool) → (if (a || b) none (any_blanks (trailing_blanks (take s.start text)))) ≡ if (not a && not b) (any_blanks (trailing_blanks (take s.start text))) none
+      go : (a b : Bool) → (if (a || b) none (any_blanks (trailing_blanks (take s.start text)))) ≡ blanks_before text words (if (not a && not b) (Some s.start) None)
       go true b = refl
       go false true = refl
       go false false = refl

@@ -12,7 +12,7 @@ use Rattle.template.specs.declared.refusal.Reason.TheVariants as R
 use Rattle.template.specs.declared.refusal.Refusal.{Refusal}
 use Rattle.template.specs.declared.visit.Options.{Options}
 
--- the options that a number from 0 to 3 stands for, or 1
+-- the options that a number from 0 to 3 stands for; reason 1 for another
 abbrev pub options_read : ℕ → Result Options Refusal
 options_read n = if (options_over n) (Err (record { reason = R.Options; place = 0 })) (Ok (record { prevent_indent = prevent_indent n; is_partial = is_partial n }))
 

@@ -1,5 +1,6 @@
 -- What the elements of the store denote: texts, comments and expressions are made from offsets and links when they are listed.
-use Rattle.std.specs.Prelude.{ℕ, ◌≤◌, ◌≡◌, List, [], Bool, true, false, eqb, length, take}
+use Rattle.std.specs.Prelude.{ℕ, ◌≤◌, ◌≡◌, List, [], Bool, true, false, Some, None, eqb, length, take}
+use Rattle.std.specs.declared.option.Option as rattle
 use Rattle.std.proofs.Math.Option.{Option, none, some}
 use Rattle.support.specs.Bytes.{Bytes, if, part}
 use Rattle.support.specs.Utf8.{valid_length, is_char_boundary}
@@ -73,9 +74,14 @@ module _ (text : Bytes) (words : List ℕ) where
   abbrev pub block_at : ℕ → ℕ → BlockParam
   block_at from limit = block_or (expression_at text words (link_of from limit))
 
+  -- the blanks before an offset, if there is one
+  abbrev pub blanks_before : rattle.Option ℕ → Option Bytes
+  blanks_before (Some n) = any_blanks (trailing_blanks (take n text))
+  blanks_before None = none
+
   -- the indent that is kept
   abbrev pub indent_means : DecoratorTemplate → Option Bytes
-  indent_means d = if d.indent (any_blanks (trailing_blanks (take d.start text))) none
+  indent_means d = blanks_before d.indent
 
   -- an element without a body; for others, and in the next two, an answer that is not used
   unfoldable pub item_means : TemplateElement → Item

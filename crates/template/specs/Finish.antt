@@ -1,6 +1,6 @@
 -- The end of the walk: whether it is unfinished, the text that is left, and the listing.
 use Rattle.std.specs.Prelude.{ℕ, ◌≤◌, ◌<◌, ◌≡◌, List, Bool, ◌&&◌, ◌||◌, not, Option, Some, None, Ok, Err, ltb, length}
-use Rattle.std.specs.declared.result.Result as code
+use Rattle.std.specs.declared.result.Result as rattle
 use Rattle.std.proofs.lemmas.List.Edits.{sets}
 use Rattle.support.specs.Bytes.{Bytes, part}
 use Rattle.support.specs.Position.{place_of, line_col}
@@ -40,6 +40,7 @@ pub record RestMade (text : Bytes) (words : List ℕ) (m : Marks) (h : Here) (e 
   pub new : e ≡ new_element (E.RawString (rest_text text words m)) e.place
   pub place : place_of e.place ≡ line_col (place_of h.place) (part text h.at m.end_pos)
 
+-- the two answers about it
 abbrev pub RestMeans : Bytes → List ℕ → Marks → Here → Option Element → Type 0
 RestMeans text words m h (Some e) = RestMade text words m h e
 RestMeans text words m h None = length text ≤ m.end_pos
@@ -73,9 +74,9 @@ pub record Buffers (x : Result Bytes) (l m : Bytes) (n : ℕ) : Type 0 where
   pub stored : m ≡ sets l 0 bytes
 
 -- what an answer of the walk means
-abbrev pub BufferedMeans : Result Bytes → Bytes → Bytes → code.Result ℕ Refusal → Type 0
+abbrev pub BufferedMeans : Result Bytes → Bytes → Bytes → rattle.Result ℕ Refusal → Type 0
 BufferedMeans x l m (Ok n) = Buffers x l m n
 BufferedMeans x l m (Err f) = (x ≡ refused (reason_number f.reason) f.place) × (m ≡ l)
 
-pub record BufferedIs (x : Result Bytes) (l m : Bytes) (r : code.Result ℕ Refusal) : Type 0 where
+pub record BufferedIs (x : Result Bytes) (l m : Bytes) (r : rattle.Result ℕ Refusal) : Type 0 where
   pub means : BufferedMeans x l m r

@@ -1,8 +1,9 @@
 -- What a turn of the walk does to the store: the values that it stores, and where.
-use Rattle.std.specs.Prelude.{ℕ, ◌+◌, ◌-◌, ◌≡◌, List, Bool, true, false, Option, Some, None, Result, Ok, eqb}
+use Rattle.std.specs.Prelude.{ℕ, ◌+◌, ◌-◌, ◌≤◌, ◌<◌, ◌≡◌, List, Bool, true, false, Option, Some, None, Result, Ok, eqb, length, get_or, set}
 use Rattle.support.specs.Bytes.{Bytes, if}
 use Rattle.template.specs.Element.{empty_element}
-use Rattle.template.specs.Links.{inverse_node, followed_by, set_template, set_inverse}
+use Rattle.template.specs.Store.{element_at}
+use Rattle.template.specs.Links.{inverse_node, followed_by, set_template, set_inverse, trim_end_of}
 use Rattle.template.specs.Visit.{VisitIs}
 use Rattle.template.specs.declared.element.Back.TheVariants as Back
 use Rattle.template.specs.declared.element.Element.{Element}
@@ -19,9 +20,9 @@ use Rattle.template.specs.declared.visit.Step.{Step}
 use Rattle.template.specs.declared.refusal.Refusal.{Refusal}
 use Rattle.template.specs.declared.turn.Turn.{Turn}
 use Rattle.template.specs.declared.turn.Plan.{Plan}
-use Rattle.template.specs.declared.turn.Joined.{Joined}
 use Rattle.template.specs.declared.turn.Open.{Open}
 use Rattle.template.specs.declared.turn.Gapped.{Gapped}
+use Rattle.template.specs.declared.turn.Standing.{Standing}
 
 -- the root's body, with nothing in it
 abbrev pub empty_frame : Frame
@@ -52,6 +53,10 @@ abbrev pub reverted : Frame → ℕ → Frame
 reverted x rest = record { opened = x.opened; block = x.block; head = rest; first = x.head; last = 0; chain = x.chain; inverted = true }
 
 -- ---- plans
+
+-- one more body, element and else-if have a number
+abbrev pub OpenFits : Open → Type 0
+OpenFits o = (o.depth ≤ 64) × (o.len ≤ 8192) × (o.count ≤ 64)
 
 -- nothing happens, or `join` joins the body on top
 abbrev pub plain_plan : Open → Element → ℕ → ℕ → Plan
@@ -114,16 +119,97 @@ turn_of closing head a = if closing (if (eqb head 0) Turn.Set Turn.Revert) (Turn
 
 -- ---- joining
 
+-- a frame and the last element of its body
+pub record Joined : Type 0 where
+  pub top : Frame
+  pub last : Element
+
 -- the frame and the last element of its body, with `at` behind them
 unfoldable pub joined_of : Frame → Element → ℕ → Joined
 joined_of x last at =
     if (eqb at 0) (record { top = x; last = last })
     (if (eqb x.last 0) (record { top = filled x at at; last = last }) (record { top = filled x x.first at; last = followed_by last at }))
 
+-- y is the frame, in the store that was st and is st', with the element at `at` behind the last one of its body
+pub record JoinedIs (st : List Element) (x : Frame) (at : ℕ) (st' : List Element) (y : Frame) : Type 0 where
+  pub store : st' ≡ set st x.last (joined_of x (element_at st x.last) at).last
+  pub top : y ≡ (joined_of x (element_at st x.last) at).top
+
 -- the gap's element, if it is kept
 unfoldable pub gapped_of : Option Element → ℕ → Gapped
 gapped_of (Some e) len = record { made = e; len = len + 1; join = len }
 gapped_of None len = record { made = empty_element; len = len; join = 0 }
+
+-- ---- a turn, stage by stage
+
+module _ (st : List Element) (lv : List Frame) (b : Standing) (s : Step) where
+  -- the gap is made
+  abbrev pub gap_made : Gapped
+  gap_made = gapped_of s.gap b.len
+
+  -- it joins the body on top
+  abbrev pub gap_joined : Joined
+  gap_joined = joined_of b.top (element_at (set st b.len gap_made.made) b.top.last) gap_made.join
+
+  -- the store with both
+  abbrev pub gap_store : List Element
+  gap_store = set (set st b.len gap_made.made) b.top.last gap_joined.last
+
+  -- the last text is trimmed
+  abbrev pub text_trimmed : Element
+  text_trimmed = trim_end_of (element_at gap_store gap_joined.top.last) s.back
+
+  -- the store with the text trimmed
+  abbrev pub trim_store : List Element
+  trim_store = set gap_store gap_joined.top.last text_trimmed
+
+  -- the owner of the open body
+  abbrev pub owner_at : ℕ
+  owner_at = ref_chain_head gap_joined.top.block gap_joined.top.head
+
+  -- the act is planned
+  abbrev pub act_planned : Plan
+  act_planned =
+      plan_of (turn_of b.closing gap_joined.top.head s.act)
+      (record { top = gap_joined.top; below = get_or lv (b.depth - 1) empty_frame; owner = element_at trim_store owner_at; depth = b.depth; len = gap_made.len; count = b.count })
+
+  -- the store with what the plan makes
+  abbrev pub act_store : List Element
+  act_store = set (set trim_store gap_made.len act_planned.made) owner_at act_planned.owner
+
+  -- an element joins the body that is on top then
+  abbrev pub act_joined : Joined
+  act_joined = joined_of act_planned.top (element_at act_store act_planned.top.last) act_planned.join
+
+  -- what the stages load and store is there
+  pub record TurnFits : Type 0 where
+    pub short : length st ≤ 8193
+    pub wide : length lv ≡ 64
+    pub len : b.len < length st
+    pub last : b.top.last < length st
+    pub joined : gap_joined.top.last < length st
+    pub owner : owner_at < length st
+    pub deep : b.depth ≤ 64
+    pub count : b.count ≤ 64
+    pub room : gap_made.len < length st
+    pub slot : act_planned.slot < 64
+    pub planned : act_planned.top.last < length st
+
+  -- what the turn leaves
+  pub record TurnIs (st' : List Element) (lv' : List Frame) (b' : Standing) : Type 0 where
+    pub store : st' ≡ set act_store act_planned.top.last act_joined.last
+    pub frames : lv' ≡ set lv act_planned.slot act_planned.put
+    pub standing :
+        b' ≡ record {
+          top = act_joined.top;
+          marks = s.marks;
+          here = s.here;
+          depth = act_planned.depth;
+          len = act_planned.len;
+          count = act_planned.count;
+          closing = act_planned.closing;
+          at = s.next;
+        }
 
 -- ---- what is visited
 

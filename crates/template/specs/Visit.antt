@@ -1,6 +1,6 @@
 -- What a visit of a span answers: why the card is turned away, or the step to take, in terms of the specification's state.
 use Rattle.std.specs.Prelude.{ℕ, ◌<◌, ◌≤◌, ◌≡◌, List, [], Bool, true, false, Some, None, Result, Ok, Err, length}
-use Rattle.std.specs.declared.option.Option as code
+use Rattle.std.specs.declared.option.Option as rattle
 use Rattle.std.proofs.Math.Option.{Option, none, some}
 use Rattle.support.specs.Bytes.{Bytes, if}
 use Rattle.support.specs.Utf8.{is_char_boundary}
@@ -115,7 +115,7 @@ module _ (text : Bytes) (words : List ℕ) where
   owner_means e O.Decorator = S.wrapper (place_of e.place) (wrap_means text words e.element)
   owner_means e O.Partial = S.wrapper (place_of e.place) (wrap_means text words e.element)
 
-  abbrev pub gap_effect : code.Option Element → State → State
+  abbrev pub gap_effect : rattle.Option Element → State → State
   gap_effect (Some e) st = add_elem (leaf_means e) st
   gap_effect None st = st
 
@@ -168,7 +168,7 @@ module _ (text : Bytes) (words : List ℕ) where
   Allowed A.Else st = takes_else (owner st) ≡ true
   Allowed A.Close st = owner st ≡ S.root → ⊥
 
-  abbrev pub GapMade : code.Option Element → Type 0
+  abbrev pub GapMade : rattle.Option Element → Type 0
   GapMade (Some e) = Made leaf e
   GapMade None = Unit {0}
 
@@ -184,11 +184,11 @@ module _ (text : Bytes) (words : List ℕ) where
     pub onward : at < p.next
     pub inside : at < span_count words
 
-  abbrev pub VisitMeans : Options → ℕ → Result (code.Option Step) Refusal → State → Type 0
+  abbrev pub VisitMeans : Options → ℕ → Result (rattle.Option Step) Refusal → State → Type 0
   VisitMeans o at (Err f) st = walk text words o.prevent_indent o.is_partial st (spans_from words at) ≡ refused (reason_number f.reason) f.place
   VisitMeans o at (Ok None) st = spans_from words at ≡ []
   VisitMeans o at (Ok (Some p)) st = StepIs o at p st
 
   -- r is the visit of the walked span from number `at` on, from every state that v tells of
-  pub record VisitIs (o : Options) (v : View) (at : ℕ) (r : Result (code.Option Step) Refusal) : Type 0 where
+  pub record VisitIs (o : Options) (v : View) (at : ℕ) (r : Result (rattle.Option Step) Refusal) : Type 0 where
     pub means : (st : State) → Tells text v st → VisitMeans o at r st

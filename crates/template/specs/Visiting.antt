@@ -176,7 +176,7 @@ abbrev pub helper_of : TagExpression → Span → Bool → HelperTemplate
 helper_of x s mark = record { from = x.from; limit = s.end; indent_before_write = mark }
 
 abbrev pub decorator_of : TagExpression → Span → Bool → Bool → DecoratorTemplate
-decorator_of x s mark indent = record { from = x.from; limit = s.end; indent_before_write = mark; indent = indent; start = s.start }
+decorator_of x s mark indent = record { from = x.from; limit = s.end; indent_before_write = mark; indent = if indent (Some s.start) None }
 
 -- the element that a tag makes that has read x
 abbrev pub element_for : Tag → Span → TagExpression → Bool → Bool → TemplateElement

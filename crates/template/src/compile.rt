@@ -68,6 +68,7 @@ fn compile_in<const LINES: usize, const STORE: usize, const ROOM: usize>(
 
 // Lists the tree of a text into `out`, or says why not. A call that refuses leaves `out` as it was, one
 // that lists changes only what its listing fills.
+// Stays: the options come as the number that document 01 gives them, and the C interface.
 pub fn compile2(text: &[u8], spans: &[u32], options: u32, out: &mut [u8]) -> Result<usize, Refusal>
     ensures { AnswerIs (answer text.now spans.now options (length out.old)) out.old out.new result }
 {

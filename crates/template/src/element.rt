@@ -50,14 +50,13 @@ pub struct HelperTemplate {
     pub indent_before_write: bool,
 }
 
-// The same; and whether it keeps the blanks before `start` as indent.
+// The same; and the end of the blanks that it keeps as indent, if it keeps them.
 #[derive(Clone, Copy)]
 pub struct DecoratorTemplate {
     pub from: usize,
     pub limit: usize,
     pub indent_before_write: bool,
-    pub indent: bool,
-    pub start: usize,
+    pub indent: Option<usize>,
 }
 
 #[derive(Clone, Copy)]

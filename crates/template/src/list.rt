@@ -87,11 +87,10 @@ fn write_comment_text(out: &mut [u8], at: usize, text: &[u8], c: Comment) -> usi
 fn write_indent(out: &mut [u8], at: usize, text: &[u8], d: DecoratorTemplate) -> usize
     ensures { Written (ascii " " ++ write_field (indent_field (indent_means text.now [] d))) out.old at out.new result }
 {
-    let kept = d.indent;
-    if !kept {
+    let Some(end) = d.indent else {
         return put_bytes(out, at, b" -");
-    }
-    let blanks = find_trailing_whitespace_chars(part(text, 0, d.start));
+    };
+    let blanks = find_trailing_whitespace_chars(part(text, 0, end));
     if blanks.len() == 0 {
         return put_bytes(out, at, b" -");
     }

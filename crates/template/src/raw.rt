@@ -196,6 +196,7 @@ fn back_left(piece: &[u8], white: bool) -> usize
 }
 
 // The end trimmed of White_Space, or of blanks.
+// Stays: the mirror of `trim_front`, since one function for both ends would take each of its five steps as a closure.
 fn trim_back(text: &[u8], words: &[u32], cut: Cut, white: bool) -> Cut
     requires { CutGood text.now words.now cut }
     ensures { CutIs text.now words.now (end_trim white (cut_means text.now words.now cut)) result }

@@ -6,7 +6,7 @@ ghost use Rattle.template.specs.Numbers.{reason_number};
 
 use expression::parameter::Fault;
 
-// Document 01's reasons, in the order of their numbers from 1 to 14.
+// Document 01's reasons, in the order of their numbers.
 #[derive(Clone, Copy, PartialEq, Eq, Debug)]
 pub enum Reason {
     Options,
@@ -25,7 +25,7 @@ pub enum Reason {
     ListingTooLong,
 }
 
-// A reason's number.
+// The number of a reason, from 1 to 14.
 impl From<Reason> for u32 {
     ghost from_gives = { λ r n. n ≡ reason_number r };
 
@@ -49,7 +49,7 @@ impl From<Reason> for u32 {
     }
 }
 
-// What an expression meets.
+// The reason that a fault of an expression is.
 impl From<Fault> for Reason {
     ghost from_gives = { λ f r. reason_number r ≡ fault_number (fault_means f) };
 

@@ -1,12 +1,13 @@
 // What a turn of the walk does to the store, as values: the element that is made, the owner of the
 // open body, the frames, and what joins the body. What does not change is stored again as it was.
-ghost use Rattle.std.specs.Prelude.{◌≡◌, ◌≤◌};
+ghost use Rattle.std.specs.Prelude.{◌≡◌, ◌≤◌, ◌<◌, length};
 ghost use Rattle.template.specs.Element.{empty_element};
-ghost use Rattle.template.specs.Turn.{ref_chain_head, emptied, filled, plain_plan, begin_plan, chain_plan, template_plan, shut_plan, revert_plan, inverse_plan, close_plan, add_plan, act_plan, plan_of, turn_of, joined_of, gapped_of};
+ghost use Rattle.template.specs.Turn.{OpenFits, ref_chain_head, emptied, filled, plain_plan, begin_plan, chain_plan, template_plan, shut_plan, revert_plan, inverse_plan, close_plan, add_plan, act_plan, plan_of, turn_of, JoinedIs, gapped_of, TurnFits, TurnIs};
 
 use crate::element::Element;
-use crate::frame::{Frame, Opened};
-use crate::visit::{Act, Added};
+use crate::frame::{Frame, Marks, Opened};
+use crate::visit::{Act, Added, Here, Step};
+use support::position::Place;
 
 // The element that the open body belongs to: the newest else-if node, or the block.
 pub(crate) fn ref_chain_head(block: usize, head: usize) -> usize
@@ -37,14 +38,8 @@ pub struct Plan {
     pub closing: bool,
 }
 
-// The frame and the last element of its body, with `at` behind them.
-#[derive(Clone, Copy)]
-pub struct Joined {
-    pub top: Frame,
-    pub last: Element,
-}
-
 // What is open when a turn begins.
+// Stays: `OpenFits` as a ghost field, since the laws are for an `Open` with any numbers.
 #[derive(Clone, Copy)]
 pub struct Open {
     pub top: Frame,
@@ -100,7 +95,7 @@ fn still(o: Open) -> Plan
 }
 
 fn begin(o: Open, made: Element, opened: Opened) -> Plan
-    requires { (o.depth ≤ 64) × (o.len ≤ 8192) × (o.count ≤ 64) }
+    requires { OpenFits o }
     ensures { result ≡ begin_plan o made opened }
 {
     Plan {
@@ -115,7 +110,7 @@ fn begin(o: Open, made: Element, opened: Opened) -> Plan
 
 // The open body becomes its owner's; the next branch begins.
 fn chain(o: Open, made: Element) -> Plan
-    requires { (o.depth ≤ 64) × (o.len ≤ 8192) × (o.count ≤ 64) }
+    requires { OpenFits o }
     ensures { result ≡ chain_plan o made }
 {
     Plan {
@@ -196,7 +191,7 @@ fn close(o: Open) -> Plan
 }
 
 fn plan_add(e: Element, added: Added, o: Open) -> Plan
-    requires { (o.depth ≤ 64) × (o.len ≤ 8192) × (o.count ≤ 64) }
+    requires { OpenFits o }
     ensures { result ≡ add_plan e added o }
 {
     match added {
@@ -207,7 +202,7 @@ fn plan_add(e: Element, added: Added, o: Open) -> Plan
 }
 
 fn plan_act(a: Act, o: Open) -> Plan
-    requires { (o.depth ≤ 64) × (o.len ≤ 8192) × (o.count ≤ 64) }
+    requires { OpenFits o }
     ensures { result ≡ act_plan a o }
 {
     match a {
@@ -219,7 +214,7 @@ fn plan_act(a: Act, o: Open) -> Plan
 }
 
 pub(crate) fn plan_of(t: Turn, o: Open) -> Plan
-    requires { (o.depth ≤ 64) × (o.len ≤ 8192) × (o.count ≤ 64) }
+    requires { OpenFits o }
     ensures { result ≡ plan_of t o }
 {
     match t {
@@ -242,22 +237,18 @@ pub(crate) fn turn_of(closing: bool, head: usize, act: Act) -> Turn
     }
 }
 
-// The frame and the last element of its body, with `at` behind them.
-pub(crate) fn join(top: Frame, last: Element, at: usize) -> Joined
-    ensures { result ≡ joined_of top last at }
+// The frame with the element at `at`, if there is one, behind the last one of its body.
+pub(crate) fn join(elements: &mut [Element], top: Frame, at: usize) -> Frame
+    requires { top.last < length elements.old }
+    ensures { JoinedIs elements.old top at elements.new result }
 {
     if at == 0 {
-        Joined { top, last }
+        top
     } else if top.last == 0 {
-        Joined {
-            top: filled(top, at, at),
-            last,
-        }
+        filled(top, at, at)
     } else {
-        Joined {
-            top: filled(top, top.first, at),
-            last: last.followed_by(at),
-        }
+        elements[top.last] = elements[top.last].followed_by(at);
+        filled(top, top.first, at)
     }
 }
 
@@ -284,5 +275,79 @@ pub(crate) fn take_gap(gap: Option<Element>, len: usize) -> Gapped
             len,
             join: 0,
         },
+    }
+}
+
+// Where the walk stands: the body on top, the marks, the place found last; how many bodies are around that
+// body, how many elements there are, and how many blocks with their else-ifs are open; whether a block closes;
+// the number of the next span.
+#[derive(Clone, Copy)]
+pub struct Standing {
+    pub top: Frame,
+    pub marks: Marks,
+    pub here: Here,
+    pub depth: usize,
+    pub len: usize,
+    pub count: usize,
+    pub closing: bool,
+    pub at: usize,
+}
+
+impl Standing {
+    pub const FIRST: Standing = Standing {
+        top: Frame::EMPTY,
+        marks: Marks::FIRST,
+        here: Here {
+            place: Place { line: 1, column: 1 },
+            at: 0,
+        },
+        depth: 0,
+        len: 1,
+        count: 0,
+        closing: false,
+        at: 0,
+    };
+}
+
+// A turn: the gap joins the body on top, the last text is trimmed, then the act. The store and the frames
+// are written at every turn, with what was there where nothing changes.
+pub(crate) fn take_turn(
+    elements: &mut [Element],
+    levels: &mut [Frame],
+    b: Standing,
+    s: Step,
+) -> Standing
+    requires { TurnFits elements.old levels.old b s }
+    ensures { TurnIs elements.old levels.old b s elements.new levels.new result }
+{
+    let g = take_gap(s.gap, b.len);
+    elements[b.len] = g.made;
+    let top = join(elements, b.top, g.join);
+    elements[top.last] = elements[top.last].trim_end(s.back);
+    let owner = ref_chain_head(top.block, top.head);
+    let p = plan_of(
+        turn_of(b.closing, top.head, s.act),
+        Open {
+            top,
+            below: levels[b.depth.saturating_sub(1)],
+            owner: elements[owner],
+            depth: b.depth,
+            len: g.len,
+            count: b.count,
+        },
+    );
+    elements[g.len] = p.made;
+    elements[owner] = p.owner;
+    levels[p.slot] = p.put;
+    let next = join(elements, p.top, p.join);
+    Standing {
+        top: next,
+        marks: s.marks,
+        here: s.here,
+        depth: p.depth,
+        len: p.len,
+        count: p.count,
+        closing: p.closing,
+        at: s.next,
     }
 }

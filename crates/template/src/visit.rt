@@ -372,8 +372,7 @@ fn decorator(x: TagExpression, s: Span, mark: bool, indent: bool) -> DecoratorTe
         from: x.from,
         limit: s.end,
         indent_before_write: mark,
-        indent: indent,
-        start: s.start,
+        indent: indent.then_some(s.start),
     }
 }
 
@@ -567,6 +566,7 @@ fn tagged(
 }
 
 // What is decided of a span behind 6 and 7, by its tag.
+// Stays: a tag is a number, since document 01 has one match over the tag number, with ranges.
 fn visit_kind(
     text: &[u8],
     starts: &[bool],

@@ -4,26 +4,15 @@ use Rattle.listing.proofs.Writes as writes
 use Rattle.template.proofs.ElementWrites as elements
 use Rattle.template.proofs.list.write_indent.Goals as goal
 
-pub returns-then-not-kept : goal.returns-then-not-kept
-returns-then-not-kept c =
-    let args = c.args in
-    let put_bytes = c.put_bytes in
-    elements.indent_off args.text.now args.d (c.if-not-kept.true) put_bytes.ensures
+pub returns-in_default : goal.returns-in_default
+returns-in_default c = elements.indent_off c.args.text.now c.args.d c.in_default.is c.put_bytes.ensures
 
 pub returns-then-blanks-eq0 : goal.returns-then-blanks-eq0
 returns-then-blanks-eq0 c =
-    let args = c.args in
-    let part = c.part in
-    let find_trailing_whitespace_chars = c.find_trailing_whitespace_chars-blanks in
-    let put_bytes2 = c.put_bytes-then-blanks-eq0 in
-    elements.indent_none args.text.now args.d (c.if-not-kept.false) part.ensures find_trailing_whitespace_chars.ensures c.if-blanks-eq0.true put_bytes2.ensures
+    elements.indent_none c.args.text.now c.args.d c.in-Some.is c.part.ensures c.find_trailing_whitespace_chars-blanks.ensures c.if-blanks-eq0.true
+    c.put_bytes-then-blanks-eq0.ensures
 
 pub returns : goal.returns
 returns c =
-    let args = c.args in
-    let good = c.well_formed in
-    let part = c.part in
-    let find_trailing_whitespace_chars = c.find_trailing_whitespace_chars-blanks in
-    let put_bytes3 = c.put_bytes-p in
-    let write_quoted = c.write_quoted in
-    elements.indent_some args.text.now args.d (c.if-not-kept.false) part.ensures find_trailing_whitespace_chars.ensures c.if-blanks-eq0.false (writes.written_then (omega (arith, good.0.0)) put_bytes3.ensures write_quoted.ensures)
+    elements.indent_some c.args.text.now c.args.d c.in-Some.is c.part.ensures c.find_trailing_whitespace_chars-blanks.ensures c.if-blanks-eq0.false
+    (writes.written_then (omega (arith, c.well_formed.0.0)) c.put_bytes-p.ensures c.write_quoted.ensures)

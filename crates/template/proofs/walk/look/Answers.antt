@@ -9,5 +9,5 @@ returns-then-closing c = ends.looks_still _ _ _ _ _ _ _ c.if-closing.true refl
 pub visit_span-requires : goal.visit_span-requires
 visit_span-requires c = c.requires
 
-pub returns : goal.returns
-returns c = ends.looks_on _ _ _ _ _ _ _ c.if-closing.false c.visit_span.ensures
+pub returns-else-closing : goal.returns-else-closing
+returns-else-closing c = ends.looks_on _ _ _ _ _ _ _ c.if-closing.false c.visit_span.ensures
