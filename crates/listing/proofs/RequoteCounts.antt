@@ -8,7 +8,7 @@ use mathlib.Core.Path.{◌≡◌, refl, sym, ap, ◌∙◌}
 use mathlib.Core.List.{[], ◌∷◌, ◌++◌}
 use mathlib.Core.Bool.{Bool, true, false, ◌&&◌}
 use lib.Dec.{eqb}
-use lib.ListN.{length, get_or, take, drop, length-append, length-take, length-drop, get_or-eq_default}
+use lib.ListN.{length, get_or, take, drop, length-append, length-drop, get_or-eq_default}
 use lib.Seq.{get_or-take, get_or-drop, drop-drop}
 use borrow.Author.Tests.{eqb-true, ne_eqb}
 use Rattle.support.specs.Bytes.{Bytes, if}
@@ -112,15 +112,6 @@ cost_add s i k (suc m) h =
     let b : get_or w m 0 ≡ get_or s (i + m) 0 = get_or-take k (drop i s) m 0 (omega arith) ∙ get_or-drop i s m 0 in
     let next : get_or w (suc m) 0 ≡ get_or s (suc (i + m)) 0 = get_or-take k (drop i s) (suc m) 0 h ∙ get_or-drop i s (suc m) 0 ∙ ap (λ n. get_or s n 0) (add-suc i m) in
     ap (cost_to s) (add-suc i m) ∙ omega (arith, cost_add s i k m (omega arith), ap (λ c. cost c (get_or s (suc (i + m)) 0)) b, ap (cost (get_or w m 0)) next)
-
--- a block from i up to e, and the byte at e
-pub cost_block : (s : Bytes) (i e : ℕ) → i ≤ e → e < length s
-    → cost_to s e ≡ cost_to s i + cost_to (take (e + 1 - i) (drop i s)) (length (take (e + 1 - i) (drop i s)) - 1)
-cost_block s i e h k =
-    let w = take (e + 1 - i) (drop i s) in
-    let p : i + (e - i) ≡ e = omega arith in
-    let q : e - i ≡ length w - 1 = omega (arith, length-take (e + 1 - i) (drop i s), length-drop i s) in
-    ap (cost_to s) (sym p) ∙ cost_add s i (e + 1 - i) (e - i) (omega arith) ∙ ap (λ m. cost_to s i + cost_to w m) q
 
 pub cost_last : (s : Bytes) → 0 < length s → cost_to s (length s) ≡ cost_to s (length s - 1) + cost_alone (get_or s (length s - 1) 0)
 cost_last s h =

@@ -55,14 +55,6 @@ written_then {x} {y} {l} {m} {n} {at} {p} {r} h a b =
 pub written_length : {w l m : Bytes} {at r : ℕ} → Written w l at m r → length m ≡ length l
 written_length {w} {l} {m} {at} a = ap length a.stored ∙ length-sets l at w
 
--- one more byte of a text
-pub written_more : {l m n : Bytes} {at p r : ℕ} (s : Bytes) (i : ℕ) → length l ≤ largest → i < length s → Written (take i s) l at m p
-    → Written (get_or s i 0 ∷ []) m p n r → Written (take (i + 1) s) l at n r
-written_more s i h k a b = rw (add-one i, take-suc s i 0 k) (written_then h a b)
-
-pub written_all : {l m : Bytes} {at p : ℕ} (s : Bytes) (i : ℕ) → length s ≤ i → Written (take i s) l at m p → Written s l at m p
-written_all s i h a = rw (take_all i s h) at a
-
 -- what is copied as far as there is room is what is stored
 pub filled : (l w part : Bytes) (at n k : ℕ) → at < length l → n ≡ min (length w) (length l - at) → k ≡ n → part ≡ take n w → put_mid at k l part ≡ sets l at w
 filled l w part at n k h m q e =
