@@ -82,6 +82,7 @@ impl Marks {
         omit_pro_ws: false,
         trim_line_required: false,
     };
+
     // The previous end, at first 0.
     pub(crate) fn prev_end(self) -> usize
         ensures { result ≡ prev_of self }
