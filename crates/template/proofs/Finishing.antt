@@ -26,7 +26,7 @@ use Rattle.template.specs.Escapes.{escapes_to, bad_escapes, unescaped}
 use Rattle.template.specs.Element.{Good, RawGood, raw_means, item_means, place_means, new_element, named_element, empty_element}
 use Rattle.template.specs.Element as role
 use Rattle.template.specs.Store.{element_at, Is, Chain, Holds, Stored}
-use Rattle.template.specs.Visit.{HereIs, leaf_means, Made, GapMade}
+use Rattle.template.specs.Visit.{prev_of, HereIs, leaf_means, Made, GapMade}
 use Rattle.template.specs.Links.{followed_by}
 use Rattle.template.specs.Turn.{filled, joined_of, gapped_of, Joined, JoinedIs}
 use Rattle.template.specs.Finish.{rest_text, RestMade, RestMeans, RestIs, walk_listing, BufferedIs, TreeIs}
@@ -35,6 +35,7 @@ use Rattle.listing.specs.Written.{Written}
 use Rattle.template.specs.Result.{accepted}
 use Rattle.template.specs.declared.element.Front.TheVariants as Front
 use Rattle.template.specs.declared.element.Back.TheVariants as Back
+use Rattle.template.specs.declared.element.RawString.{RawString}
 use Rattle.template.specs.declared.element.TemplateElement.TheVariants as E
 use Rattle.template.specs.declared.element.Element.{Element}
 use Rattle.template.specs.declared.frame.Frame.{Frame}
@@ -63,9 +64,9 @@ end_between : (text : Bytes) → is_char_boundary text (length text) ≡ true
 unfolding is_char_boundary
 end_between text = rw (le-leb (length text) (length text) (omega arith), get_or-eq_default text 0 {n = length text} (omega arith))
 
-module _ (text : Bytes) (words : List ℕ) (m : Marks) (h : Here) (r : Element) (good : Good text words) (is : RestMade text words m h r) (here : HereIs text h m.end_pos) where
-  rest_place : place_of r.place ≡ place_at text m.end_pos
-  rest_place = is.place ∙ ap (λ (p : Place). line_col p (part text h.at m.end_pos)) here.place ∙ line_col_from text h.at m.end_pos (omega (arith, good.short)) here.before
+module _ (text : Bytes) (words : List ℕ) (m : Marks) (h : Here) (r : Element) (good : Good text words) (is : RestMade text words m h r) (here : HereIs text h (prev_of m)) where
+  rest_place : place_of r.place ≡ place_at text (prev_of m)
+  rest_place = is.place ∙ ap (λ (p : Place). line_col p (part text h.at (prev_of m))) here.place ∙ line_col_from text h.at (prev_of m) (omega (arith, good.short)) here.before
 
   rest_good : RawGood text words (rest_text text words m)
   unfolding escapes_to bad_escapes
@@ -81,32 +82,33 @@ module _ (text : Bytes) (words : List ℕ) (m : Marks) (h : Here) (r : Element) 
   rest_made : Made text words role.leaf r
   rest_made =
       let x : Element = new_element (E.RawString (rest_text text words m)) r.place in
-      let y : Is text words role.leaf (some (place_of r.place)) x = record { role = refl; place = line_some text m.end_pos r.place rest_place; sound = rest_good } in
+      let y : Is text words role.leaf (some (place_of r.place)) x = record { role = refl; place = line_some text (prev_of m) r.place rest_place; sound = rest_good } in
       record {
         new = is.new ∙ ap (λ (e : Element). named_element e.element e.name r.place) (sym is.new);
         is = subst (λ (e : Element). Is text words role.leaf (some (place_of r.place)) e) (sym is.new) y;
       }
 
-  rest_means_lem : leaf_means text words r ≡ item (place_at text m.end_pos) (T.text (drop m.end_pos text))
+  rest_means_lem : leaf_means text words r ≡ item (place_at text (prev_of m)) (T.text (drop (prev_of m) text))
   unfolding item_means raw_means escapes_to unescaped
   rest_means_lem =
-      let n = m.end_pos in
+      let n = prev_of m in
       let b : raw_means text words (rest_text text words m) ≡ drop n text =
       rw (escapes_end words (span_count words) (omega arith)) (take_all (length text - n) (drop n text) (omega (arith, length-drop n text))) in
       let a : item_means text words r.element ≡ T.text (drop n text) = ap (λ (e : Element). item_means text words e.element) is.new ∙ ap T.text b in
       ap (λ (p : Place). item p (item_means text words r.element)) rest_place ∙ ap (item (place_at text n)) a
 
 -- as the code makes it
-pub rest_is : (text : Bytes) (words : List ℕ) (m : Marks) (h : Here) (r : Element) (p : code.Place) (k : ℕ) (b : Bytes) → m.end_pos < length text → k ≡ span_count words
-    → r ≡ new_element (E.RawString (record { start = m.end_pos; end = length text; escapes = k; front = Front.Kept; back = Back.Kept })) p
-    → place_of p ≡ line_col (place_of h.place) b → b ≡ part text h.at m.end_pos → RestIs text words m h (Some r)
-rest_is text words m h r p k b l a e f g =
+pub rest_is : (text : Bytes) (words : List ℕ) (m : Marks) (h : Here) (r : Element) (p : code.Place) (n k : ℕ) (b : Bytes) → n ≡ prev_of m → n < length text → k ≡ span_count words
+    → r ≡ new_element (E.RawString (record { start = n; end = length text; escapes = k; front = Front.Kept; back = Back.Kept })) p
+    → place_of p ≡ line_col (place_of h.place) b → b ≡ part text h.at n → RestIs text words m h (Some r)
+rest_is text words m h r p n k b d l a e f g =
     let q : r.place ≡ p = ap (λ (v : Element). v.place) e in
+    let same : record { start = n; end = length text; escapes = k; front = Front.Kept; back = Back.Kept } ≡ rest_text text words m = cc (a, d) in
     record {
       means = record {
-        left = l;
-        new = e ∙ ap (λ (i : ℕ). new_element (E.RawString (record { start = m.end_pos; end = length text; escapes = i; front = Front.Kept; back = Back.Kept })) p) a ∙ ap (new_element (E.RawString (rest_text text words m))) (sym q);
-        place = ap place_of q ∙ f ∙ ap (line_col (place_of h.place)) g;
+        left = omega (arith, l, d);
+        new = e ∙ ap (λ (i : RawString). new_element (E.RawString i) p) same ∙ ap (new_element (E.RawString (rest_text text words m))) (sym q);
+        place = ap place_of q ∙ f ∙ ap (line_col (place_of h.place)) (g ∙ ap (part text h.at) d);
       };
     }
 
@@ -121,13 +123,13 @@ module _ (text : Bytes) (words : List ℕ) where
 
   -- the root's elements with the text that is left
   abbrev pub rest_of : Marks → List Elem → List Elem
-  rest_of m es = if (ltb m.end_pos (length text)) (item (place_at text m.end_pos) (T.text (drop m.end_pos text)) ∷ es) es
+  rest_of m es = if (ltb (prev_of m) (length text)) (item (place_at text (prev_of m)) (T.text (drop (prev_of m) text)) ∷ es) es
 
   -- the end of the list: some elements lie there, the place found last is not behind the previous end, and the answer lists them
   pub record Ended (o : Options) (st : List Element) (x : Frame) (len : ℕ) (m : Marks) (h : Here) : Type 0 where
     pub elems : List Elem
     pub root : RootIs st x len elems
-    pub here : HereIs text h m.end_pos
+    pub here : HereIs text h (prev_of m)
     pub answer : walk_listing text words o ≡ accepted (listing (body_of (rest_of m elems)))
 
 module _ (text : Bytes) (words : List ℕ) (st : List Element) (x : Frame) (len : ℕ) (es : List Elem) (is : RootIs text words st x len es) where
@@ -211,8 +213,8 @@ module _ {text : Bytes} {words : List ℕ} {o : Options} {st : List Element} {x 
   rest_kept None q = tt
 
   rest_joined : (r : Option Element) → RestMeans text words m h r → with_gap text words st x len e.end.elems e.end.root r ≡ rest_of text words m e.end.elems
-  rest_joined (Some i) q = rw (lt-ltb m.end_pos (length text) q.left) (ap (λ (k : Elem). k ∷ e.end.elems) (rest_means_lem text words m h i e.good q e.end.here))
-  rest_joined None q = rw (le-ltb m.end_pos (length text) q)
+  rest_joined (Some i) q = rw (lt-ltb (prev_of m) (length text) q.left) (ap (λ (k : Elem). k ∷ e.end.elems) (rest_means_lem text words m h i e.good q e.end.here))
+  rest_joined None q = rw (le-ltb (prev_of m) (length text) q)
 
   ended_holds : Holds text words st' y.first (tree_of (rest_of text words m e.end.elems))
   ended_holds =

@@ -25,7 +25,7 @@ use Rattle.template.specs.Nests.{kept_gap}
 use Rattle.template.specs.Escapes.{escapes_to, bad_escapes, unescaped}
 use Rattle.template.specs.Step.{trim_line, trim_marked, trim_front, after_gap, take_gap}
 use Rattle.template.specs.Element.{front_trim, place_means, raw_means, item_means, RawGood, role_of, Sound, no_name, new_element, named_element}
-use Rattle.template.specs.Visit.{stage_means, MarksAre, HereIs, leaf_means, gap_effect, Made, GapMade}
+use Rattle.template.specs.Visit.{stage_means, prev_of, MarksAre, HereIs, leaf_means, gap_effect, Made, GapMade}
 use Rattle.template.specs.Visiting.{SpanFits, front_of, raw_front, gap_text, gap_element}
 use Rattle.template.specs.declared.element.Front.TheVariants as Front
 use Rattle.template.specs.declared.element.TemplateElement.{TemplateElement}
@@ -86,7 +86,7 @@ and_yes false = refl
 module _ (text : Bytes) (words : List ℕ) (s : Span) {m : Marks} {st : State} (h : MarksAre m st) where
   gap_means : raw_means text words (gap_text words m s) ≡ trim_marked st (part text (prev_end st) s.start)
   unfolding raw_means escapes_to unescaped
-  gap_means = rw (escapes_end words (span_count words) (omega arith)) (front_marked h (part text m.end_pos s.start) ∙ ap (λ n. trim_marked st (part text n s.start)) h.previous)
+  gap_means = rw (escapes_end words (span_count words) (omega arith)) (front_marked h (part text (prev_of m) s.start) ∙ ap (λ n. trim_marked st (part text n s.start)) h.previous)
 
   pub gap_good : {here : Here} → SpanFits text s → HereIs text here (prev_end st) → prev_end st ≤ s.start → RawGood text words (gap_text words m s)
   unfolding escapes_to bad_escapes

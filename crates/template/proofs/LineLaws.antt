@@ -14,7 +14,7 @@ use Rattle.support.specs.Leading.{leading_from, drop_front, drop_back}
 use Rattle.support.specs.TextRules.{is_blank, is_newline, blank_length, trim_start_blanks, trim_end_blanks, starts_with_newline, starts_with_empty_line, ends_with_empty_line}
 use Rattle.support.proofs.Pieces.{back_none, back_piece}
 use Rattle.support.proofs.TextLaws.{blank_before, other_before, ends_at}
-use Rattle.template.specs.Lines.{line_across, StartsAre, EndsAre}
+use Rattle.template.specs.Lines.{line_across}
 
 -- ---- from byte to byte
 
@@ -160,9 +160,6 @@ module _ (text : Bytes) where
           filled = store_below start_at cells (i - 1) v (omega arith) r q s.filled;
         }
 
-    pub starting_ends : Starting old cells i line → i ≤ 0 → StartsAre text cells
-    starting_ends s h = record { long = s.long; cells = λ k b. s.filled k (omega arith) b }
-
     pub ending_on : {v : Bool} → Ending old cells i line → i < length text → v ≡ line_across (get_or text i 0) line → Ending old (set cells (i + 1) v) (i + 1) v
     ending_on {v} s h e =
         let r : v ≡ end_at (i + 1) = e ∙ ap (line_across (get_or text i 0)) s.told ∙ ends_behind text i h in
@@ -173,6 +170,3 @@ module _ (text : Bytes) where
           told = r;
           filled = store_above end_at cells (i + 1) v (omega arith) r refl s.filled;
         }
-
-    pub ending_ends : Ending old cells i line → length text ≤ i → EndsAre text cells
-    ending_ends s h = record { long = s.long; cells = λ k b. s.filled k (omega arith) (omega arith) }

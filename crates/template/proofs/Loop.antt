@@ -19,7 +19,7 @@ use Rattle.template.specs.Nests.{takes_else}
 use Rattle.template.specs.Element.{back_trim}
 use Rattle.template.specs.Store.{element_at}
 use Rattle.template.specs.Links.{trim_end_of}
-use Rattle.template.specs.Visit.{with_marks, MarksAre, HereIs, Tells, gap_effect, trim_effect, act_effect, applied, Allowed, GapMade, StepIs, VisitMeans}
+use Rattle.template.specs.Visit.{prev_of, with_marks, MarksAre, HereIs, Tells, gap_effect, trim_effect, act_effect, applied, Allowed, GapMade, StepIs, VisitMeans}
 use Rattle.template.specs.Turn.{ref_chain_head, plan_of, turn_of, joined_of, gapped_of, still_step, LookIs, Joined, gap_made, gap_joined, text_trimmed, owner_at, act_planned, TurnFits, TurnIs}
 use Rattle.template.specs.declared.element.Back.{Back}
 use Rattle.template.specs.declared.element.Element.{Element}
@@ -147,8 +147,8 @@ module _ (text : Bytes) (words : List ℕ) where
       pub gap : GapMade text words p.gap
       pub act : closing ≡ false → Allowed text words p.act s
       pub steps : walked s at ≡ walked (applied text words p s) p.next
-      pub here : HereIs text p.here p.marks.end_pos
-      pub previous : p.marks.end_pos ≡ prev_end (with_marks p.marks s)
+      pub here : HereIs text p.here (prev_of p.marks)
+      pub previous : prev_of p.marks ≡ prev_end (with_marks p.marks s)
       pub onward : Onward closing at p.next
 
     -- ---- the step of a turn

@@ -22,7 +22,7 @@ use Rattle.template.specs.State as S
 use Rattle.template.specs.State.{Owner, State, owner, open_count}
 use Rattle.template.specs.Nests.{kept_gap, is_filling, is_waiting, takes_else, is_of_kind, may_end, plain_nests, tag_nests, nests}
 use Rattle.template.specs.Refusal.{one_too_many, too_many_open, same_name, is_empty_name, closes_name, helper_name_differs, decorator_name_differs}
-use Rattle.template.specs.Visit.{stage_means, OpenedIs}
+use Rattle.template.specs.Visit.{prev_of, stage_means, OpenedIs}
 use Rattle.template.specs.Asked.{KeptIs, RawIs, TakesIs, end_tag, OfKindIs, NestsIs, TooManyIs, NamesAre, HelperDiffersIs, DecoratorDiffersIs}
 use Rattle.template.specs.declared.frame.Opened.{Opened}
 use Rattle.template.specs.declared.frame.Opened.TheVariants as O
@@ -37,21 +37,21 @@ abbrev own_text : Span → Bool
 own_text s = leb 1 s.tag && leb s.tag 3
 
 module _ {m : Marks} {s : Span} where
-  kept_as : {r : Bool} → r ≡ ((not (eqb s.start m.end_pos) && not (own_text s)) && not m.omit_pro_ws) → KeptIs m s r
+  kept_as : {r : Bool} → r ≡ ((not (eqb s.start (prev_of m)) && not (own_text s)) && not m.omit_pro_ws) → KeptIs m s r
   unfolding kept_gap
   kept_as e = record { means = λ st h. e ∙ cc (h.previous, h.omit_pro_ws) }
 
-  pub kept_touching : s.start ≡ m.end_pos → KeptIs m s false
+  pub kept_touching : s.start ≡ prev_of m → KeptIs m s false
   kept_touching e = kept_as (rw (eq-eqb _ _ e))
 
   pub kept_tilde : m.omit_pro_ws ≡ true → KeptIs m s false
-  kept_tilde e = kept_as (rw e (go (not (eqb s.start m.end_pos) && not (own_text s))))
+  kept_tilde e = kept_as (rw e (go (not (eqb s.start (prev_of m)) && not (own_text s))))
     where
       go : (a : Bool) → false ≡ (a && false)
       go true = refl
       go false = refl
 
-  module _ (n : s.start ≡ m.end_pos → ⊥) (w : m.omit_pro_ws ≡ false) where
+  module _ (n : s.start ≡ prev_of m → ⊥) (w : m.omit_pro_ws ≡ false) where
     kept_by : {a b : Bool} → leb 1 s.tag ≡ a → leb s.tag 3 ≡ b → KeptIs m s (not (a && b))
     kept_by {a} {b} e f = kept_as (rw (ne_eqb _ _ n, w, e, f) (go (not (a && b))))
       where

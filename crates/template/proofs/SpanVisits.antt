@@ -34,7 +34,7 @@ use Rattle.template.specs.Element.{Good}
 use Rattle.template.specs.Numbers.{reason_number}
 use Rattle.template.specs.Asked.{KeptIs, NestsIs, TooManyIs, HelperDiffersIs, DecoratorDiffersIs}
 use Rattle.template.specs.TagRead.{tag_means, TagDone, TagReadIs}
-use Rattle.template.specs.Visit.{Tells, StepIs, VisitIs}
+use Rattle.template.specs.Visit.{prev_of, Tells, StepIs, VisitIs}
 use Rattle.template.specs.Visiting.{SpanFits, Visited, Makes, KindIs, TagMakes, refusal_of, RefusalIs, AdvanceIs}
 use Rattle.template.specs.declared.tag.TagExpression.{TagExpression}
 use Rattle.template.specs.declared.refusal.Reason.{Reason}
@@ -194,11 +194,11 @@ module _ (text : Bytes) (words : List ℕ) (o : Options) (v : View) (at : ℕ) w
     refused_as {f} e =
         record { means = λ st t. ap (walk text words o.prevent_indent o.is_partial st) w.first ∙ walk_stop text words o.prevent_indent o.is_partial st s _ (reason_number f.reason) f.place (e st t) }
 
-    pub visit_early : s.start < v.marks.end_pos → Visits (Err (record { reason = R.OutOfOrder; place = s.number }))
+    pub visit_early : s.start < prev_of v.marks → Visits (Err (record { reason = R.OutOfOrder; place = s.number }))
     unfolding walk_span
     visit_early h = refused_as (λ st t. rw (lt-ltb s.start (prev_end st) (omega (arith, h, t.marks.previous))))
 
-    module _ (late : v.marks.end_pos ≤ s.start) {gap : Bool} (kept : KeptIs v.marks s gap)
+    module _ (late : prev_of v.marks ≤ s.start) {gap : Bool} (kept : KeptIs v.marks s gap)
         {b : Bool} (nest : NestsIs v.marks.stage v.opened v.inverted s.tag gap b) where
       not_early : {st : State} → Tells text v st → starts_early st s ≡ false
       not_early {st} t = le-ltb s.start (prev_end st) (omega (arith, late, t.marks.previous))

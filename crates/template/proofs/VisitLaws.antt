@@ -7,7 +7,7 @@ use mathlib.Core.Bool.{Bool, true, false, ◌&&◌, ◌||◌, not}
 use mathlib.Core.Option.{Option, none, some}
 use lib.Dec.{eqb}
 use borrow.Author.Tests.{eqb-true, eqb-false}
-use Rattle.std.specs.Prelude.{None, Ok, Err}
+use Rattle.std.specs.Prelude.{Some, None, Ok, Err}
 use Rattle.std.specs.declared.option.Option as rattle
 use Rattle.support.specs.Bytes.{Bytes, if}
 use Rattle.support.specs.Utf8.{is_char_boundary}
@@ -27,7 +27,7 @@ use Rattle.template.specs.Escapes.{text_start, own_escapes, bad_escapes, faulty_
 use Rattle.template.specs.Step.{trim_front, after_gap, take_gap, process_standalone, standalone, raw_string, add_item, add_comment, plain_step}
 use Rattle.template.specs.Walk.{walk_plain, walk_kind}
 use Rattle.template.specs.Element.{raw_means, item_means, leaf, role_of, Sound, no_name, new_element}
-use Rattle.template.specs.Visit.{stage_means, with_marks, MarksAre, HereIs, leaf_means, gap_effect, applied, Made, GapMade}
+use Rattle.template.specs.Visit.{stage_means, prev_of, with_marks, MarksAre, HereIs, leaf_means, gap_effect, applied, Made, GapMade}
 use Rattle.template.specs.Visiting.{Visited, KindIs, gap_element, text_element, text_step, raw_front, trim_of}
 use Rattle.template.specs.declared.element.Back.{Back}
 use Rattle.template.specs.declared.element.RawString.{RawString}
@@ -48,7 +48,7 @@ use Rattle.template.proofs.GapLaws.{and_yes, place_some, made, front_raw, state_
 
 -- the marks behind a span that ends at e
 abbrev pub marks_behind : Stage → ℕ → Bool → Bool → Marks
-marks_behind g e w l = record { stage = g; end_pos = e; started = true; omit_pro_ws = w; trim_line_required = l }
+marks_behind g e w l = record { stage = g; end_pos = Some e; omit_pro_ws = w; trim_line_required = l }
 
 -- a text's step, from its element
 pub text_step_of : (v : View) (s : Span) (here : Here) (start : ℕ) (g : Stage) (l : Bool) {e : Element} → e ≡ text_element v s start here.place
@@ -124,7 +124,7 @@ module _ (text : Bytes) (words : List ℕ) (o : Options) (v : View) (s : Span) (
         gap = None;
         back = Back.Kept;
         act = A.Skip;
-        marks = record { stage = G.Filling; end_pos = m.end_pos; started = m.started; omit_pro_ws = m.omit_pro_ws; trim_line_required = m.trim_line_required };
+        marks = record { stage = G.Filling; end_pos = m.end_pos; omit_pro_ws = m.omit_pro_ws; trim_line_required = m.trim_line_required };
         here = v.here;
         next = s.number + 1;
       }))
@@ -262,7 +262,7 @@ module _ (text : Bytes) (words : List ℕ) (o : Options) (v : View) (s : Span) (
     text_made h a b c = made text words (E.RawString raw) no_name here.place (place_some text s.start h.place)
         (record { order = a; inside = h.fits.inside; starts = b; ends = h.fits.ends; escapes = c })
 
-    pub text_step_lem : {gap : Bool} → s.tag ≡ 2 → start ≡ m.end_pos → bad_escapes text start (own_escapes words s) ≡ false
+    pub text_step_lem : {gap : Bool} → s.tag ≡ 2 → start ≡ prev_of m → bad_escapes text start (own_escapes words s) ≡ false
         → KindIs text words o v s gap here (Ok (text_step v s here start G.Filling false))
     unfolding K.kinds plain_nests plain_step applied with_marks
     text_step_lem {gap} e b c = record {
@@ -298,7 +298,7 @@ module _ (text : Bytes) (words : List ℕ) (o : Options) (v : View) (s : Span) (
     }
 
   -- a bad escape
-  pub text_bad : {gap : Bool} (start : ℕ) → s.tag ≡ 2 → start ≡ m.end_pos → bad_escapes text start (own_escapes words s) ≡ true
+  pub text_bad : {gap : Bool} (start : ℕ) → s.tag ≡ 2 → start ≡ prev_of m → bad_escapes text start (own_escapes words s) ≡ true
       → KindIs text words o v s gap here (Err (record { reason = R.BadEscape; place = s.number }))
   unfolding K.kinds
   text_bad start e b c = record {

@@ -10,9 +10,9 @@ use mathlib.Core.Option.{Option, none, some}
 use lib.ListN.{length, replicate, length-replicate}
 use lib.Dec.{ltb}
 use borrow.Author.Tests.{lt-ltb, le-leb, ltb-false}
-use Rattle.std.specs.Prelude.{Some, None, Result, Ok, Err}
+use Rattle.std.specs.Prelude.{Some, None, is_none, Result, Ok, Err}
 use Rattle.std.specs.declared.option.Option as rattle
-use Rattle.support.specs.Bytes.{Bytes, if}
+use Rattle.support.specs.Bytes.{Bytes}
 use Rattle.support.specs.Utf8.{is_char_boundary}
 use Rattle.support.specs.Position.{place_after, linefeeds, characters_since}
 use Rattle.support.proofs.Characters.{valid_first}
@@ -27,7 +27,7 @@ use Rattle.template.specs.Walk.{walk_by, root_body, read_spans}
 use Rattle.template.specs.Walk as spec
 use Rattle.template.specs.Element.{Good, empty_element}
 use Rattle.template.specs.Store.{element_at, Chain}
-use Rattle.template.specs.Visit.{stage_means, MarksAre, Tells, VisitMeans, VisitIs}
+use Rattle.template.specs.Visit.{stage_means, end_as, prev_of, MarksAre, Tells, VisitMeans, VisitIs}
 use Rattle.template.specs.Turn.{empty_frame, still_step, LookIs}
 use Rattle.template.specs.Finish.{unfinished_at, walk_listing}
 use Rattle.template.specs.declared.element.TemplateElement.TheVariants as E
@@ -50,7 +50,7 @@ use Rattle.template.proofs.Finishing.{RootIs, rest_of}
 -- ---- the start
 
 abbrev pub first_marks : Marks
-first_marks = record { stage = G.Waiting; end_pos = 0; started = false; omit_pro_ws = false; trim_line_required = false }
+first_marks = record { stage = G.Waiting; end_pos = None; omit_pro_ws = false; trim_line_required = false }
 
 abbrev pub first_here : Here
 first_here = record { place = record { line = 1; column = 1 }; at = 0 }
@@ -119,17 +119,17 @@ module _ (text : Bytes) (words : List ℕ) (o : Options) where
   deep_open [] = refl
   deep_open (l ∷ ls) = lt-ltb 0 (length (l ∷ ls)) (omega arith)
 
-  started_is : (b u : Bool) (n : ℕ) (e : Option ℕ) → if b (some n) none ≡ e → (u && not b) ≡ (u && elim e [ none ↦ true | some k ↦ false ])
-  started_is true u n e q = rw (← q) refl
-  started_is false u n e q = rw (← q) refl
+  started_is : (b : rattle.Option ℕ) (u : Bool) (e : Option ℕ) → end_as b ≡ e → (u && is_none b) ≡ (u && elim e [ none ↦ true | some k ↦ false ])
+  started_is (Some n) u e q = rw (← q) refl
+  started_is None u e q = rw (← q) refl
 
   pub unfinished_is : (m : Marks) (depth : ℕ) (s : State) → MarksAre m s → depth ≡ length s.outer → unfinished_at text m depth ≡ unfinished text s
   unfinished_is m depth s a d =
-      let n = m.end_pos in
+      let n = prev_of m in
       let u = length text in
-      ap (λ g. not (is_filling g) || (ltb 0 depth || (ltb n u && not m.started))) a.stage
-      ∙ ap (λ v. not (is_filling s.stage) || (v || (ltb n u && not m.started))) (ap (ltb 0) d ∙ deep_open s.outer)
-      ∙ ap (λ v. not (is_filling s.stage) || (block_open s || v)) (started_is m.started (ltb n u) n s.end_pos a.end_pos ∙ ap (λ i. ltb i u && only_templates s) a.previous)
+      ap (λ g. not (is_filling g) || (ltb 0 depth || (ltb n u && is_none m.end_pos))) a.stage
+      ∙ ap (λ v. not (is_filling s.stage) || (v || (ltb n u && is_none m.end_pos))) (ap (ltb 0) d ∙ deep_open s.outer)
+      ∙ ap (λ v. not (is_filling s.stage) || (block_open s || v)) (started_is m.end_pos (ltb n u) s.end_pos a.end_pos ∙ ap (λ i. ltb i u && only_templates s) a.previous)
 
   or_left : (a b : Bool) → (a || b) ≡ false → a ≡ false
   or_left true b e = e
@@ -144,10 +144,10 @@ module _ (text : Bytes) (words : List ℕ) (o : Options) where
   unfolding read_spans spec.finish
   too_early s w e = rw (w, e)
 
-  body_of_lem : (m : Marks) (s : State) (l : Level) (es : List Elem) → l ≡ level root es → m.end_pos ≡ prev_end s → root_body text s l ≡ body_of (rest_of text words m es)
+  body_of_lem : (m : Marks) (s : State) (l : Level) (es : List Elem) → l ≡ level root es → prev_of m ≡ prev_end s → root_body text s l ≡ body_of (rest_of text words m es)
   body_of_lem m s l es q p = rw (q, p)
 
-  pub whole : (m : Marks) (s : State) (es : List Elem) → walked text words o initial 0 ≡ accepted s → unfinished text s ≡ false → s.top ≡ level root es → m.end_pos ≡ prev_end s
+  pub whole : (m : Marks) (s : State) (es : List Elem) → walked text words o initial 0 ≡ accepted s → unfinished text s ≡ false → s.top ≡ level root es → prev_of m ≡ prev_end s
       → walk_listing text words o ≡ accepted (listing (body_of (rest_of text words m es)))
   unfolding read_spans spec.finish
   whole m s es w e q p = rw (w, e) (ap (λ b. accepted (listing b)) (body_of_lem m s s.top es q p))
@@ -166,7 +166,7 @@ module _ (text : Bytes) (words : List ℕ) (o : Options) where
     pub root_whole : (es : List Elem) × (s.top ≡ level root es) × RootIs text words st x len es
     root_whole =
         let e : ltb 0 depth ≡ false =
-        or_left (ltb 0 depth) (ltb m.end_pos (length text) && not m.started) (or_right (not (is_filling (stage_means m.stage))) _ done) in
+        or_left (ltb 0 depth) (ltb (prev_of m) (length text) && is_none m.end_pos) (or_right (not (is_filling (stage_means m.stage))) _ done) in
         let z = ltb-false 0 depth e in
         root_open s.top s.outer (omega (arith, z, k.fits.deep)) k.fits k.pos (omega (arith, k.long, within))
 

@@ -1,5 +1,5 @@
 -- The end of the walk: whether it is unfinished, the text that is left, and the listing.
-use Rattle.std.specs.Prelude.{ℕ, ◌≤◌, ◌<◌, ◌≡◌, List, Bool, ◌&&◌, ◌||◌, not, Option, Some, None, Ok, Err, ltb, length}
+use Rattle.std.specs.Prelude.{ℕ, ◌≤◌, ◌<◌, ◌≡◌, List, Bool, ◌&&◌, ◌||◌, not, Option, Some, None, is_none, Ok, Err, ltb, length}
 use Rattle.std.specs.declared.result.Result as rattle
 use Rattle.std.proofs.lemmas.List.Edits.{sets}
 use Rattle.support.specs.Bytes.{Bytes, part}
@@ -14,7 +14,7 @@ use Rattle.template.specs.Walk.{read_spans}
 use Rattle.template.specs.Compile.{fit}
 use Rattle.template.specs.Element.{new_element}
 use Rattle.template.specs.Store.{Holds}
-use Rattle.template.specs.Visit.{stage_means}
+use Rattle.template.specs.Visit.{stage_means, prev_of}
 use Rattle.template.specs.Numbers.{reason_number}
 use Rattle.template.specs.declared.refusal.Refusal.{Refusal}
 use Rattle.template.specs.declared.element.Front.TheVariants as Front
@@ -28,22 +28,22 @@ use Rattle.template.specs.declared.visit.Options.{Options}
 
 -- 7 at the end of the list, by the marks and the bodies around
 abbrev pub unfinished_at : Bytes → Marks → ℕ → Bool
-unfinished_at text m depth = not (is_filling (stage_means m.stage)) || (ltb 0 depth || (ltb m.end_pos (length text) && not m.started))
+unfinished_at text m depth = not (is_filling (stage_means m.stage)) || (ltb 0 depth || (ltb (prev_of m) (length text) && is_none m.end_pos))
 
 -- the text after the last previous end, with no escapes
 abbrev pub rest_text : Bytes → List ℕ → Marks → RawString
-rest_text text words m = record { start = m.end_pos; end = length text; escapes = span_count words; front = Front.Kept; back = Back.Kept }
+rest_text text words m = record { start = prev_of m; end = length text; escapes = span_count words; front = Front.Kept; back = Back.Kept }
 
 -- e is its element
 pub record RestMade (text : Bytes) (words : List ℕ) (m : Marks) (h : Here) (e : Element) : Type 0 where
-  pub left : m.end_pos < length text
+  pub left : prev_of m < length text
   pub new : e ≡ new_element (E.RawString (rest_text text words m)) e.place
-  pub place : place_of e.place ≡ line_col (place_of h.place) (part text h.at m.end_pos)
+  pub place : place_of e.place ≡ line_col (place_of h.place) (part text h.at (prev_of m))
 
 -- the two answers about it
 abbrev pub RestMeans : Bytes → List ℕ → Marks → Here → Option Element → Type 0
 RestMeans text words m h (Some e) = RestMade text words m h e
-RestMeans text words m h None = length text ≤ m.end_pos
+RestMeans text words m h None = length text ≤ prev_of m
 
 -- r is its element, or no text is left
 pub record RestIs (text : Bytes) (words : List ℕ) (m : Marks) (h : Here) (r : Option Element) : Type 0 where

@@ -1,8 +1,8 @@
 -- What a visit of a span answers: why the card is turned away, or the step to take, in terms of the specification's state.
-use Rattle.std.specs.Prelude.{ℕ, ◌<◌, ◌≤◌, ◌≡◌, List, [], Bool, true, false, Some, None, Result, Ok, Err, length}
+use Rattle.std.specs.Prelude.{ℕ, ◌<◌, ◌≤◌, ◌≡◌, List, [], Bool, true, false, Some, None, unwrap_or, Result, Ok, Err, length}
 use Rattle.std.specs.declared.option.Option as rattle
 use Rattle.std.proofs.Math.Option.{Option, none, some}
-use Rattle.support.specs.Bytes.{Bytes, if}
+use Rattle.support.specs.Bytes.{Bytes}
 use Rattle.support.specs.Utf8.{is_char_boundary}
 use Rattle.support.specs.Position.{place_at, place_of}
 use Rattle.json_path.specs.Span.{span_count, spans_from}
@@ -41,8 +41,17 @@ stage_means G.Waiting = S.waiting
 stage_means G.Filling = S.filling
 stage_means G.Full = S.full
 
+-- an end, if there is one
+abbrev pub end_as : rattle.Option ℕ → Option ℕ
+end_as (Some n) = some n
+end_as None = none
+
 abbrev pub end_means : Marks → Option ℕ
-end_means m = if m.started (some m.end_pos) none
+end_means m = end_as m.end_pos
+
+-- the previous end, at first 0
+abbrev pub prev_of : Marks → ℕ
+prev_of m = unwrap_or m.end_pos 0
 
 -- the state with the code's marks in place of its own
 unfoldable pub with_marks : Marks → State → State
@@ -52,7 +61,7 @@ with_marks m st = state (stage_means m.stage) st.top st.outer (end_means m) m.om
 pub record MarksAre (m : Marks) (st : State) : Type 0 where
   pub stage : stage_means m.stage ≡ st.stage
   pub end_pos : end_means m ≡ st.end_pos
-  pub previous : m.end_pos ≡ prev_end st
+  pub previous : prev_of m ≡ prev_end st
   pub omit_pro_ws : m.omit_pro_ws ≡ st.omit_pro_ws
   pub trim_line : m.trim_line_required ≡ st.trim_line_required
 
@@ -179,8 +188,8 @@ module _ (text : Bytes) (words : List ℕ) where
     pub act : Allowed p.act st
     -- a root that waits takes no gap
     pub gapless : st.stage ≡ S.waiting → owner st ≡ S.root → p.gap ≡ None
-    pub here : HereIs text p.here p.marks.end_pos
-    pub previous : p.marks.end_pos ≡ prev_end (with_marks p.marks st)
+    pub here : HereIs text p.here (prev_of p.marks)
+    pub previous : prev_of p.marks ≡ prev_end (with_marks p.marks st)
     pub onward : at < p.next
     pub inside : at < span_count words
 

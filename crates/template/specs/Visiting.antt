@@ -22,7 +22,7 @@ use Rattle.template.specs.Element.{call_at, new_element}
 use Rattle.template.specs.TagRead.{tag_means}
 use Rattle.template.specs.Asked.{NamesAre}
 use Rattle.template.specs.Numbers.{reason_number}
-use Rattle.template.specs.Visit.{stage_means, with_marks, HereIs, Tells, applied, GapMade, Allowed}
+use Rattle.template.specs.Visit.{stage_means, prev_of, with_marks, HereIs, Tells, applied, GapMade, Allowed}
 use Rattle.template.specs.declared.element.Front.{Front}
 use Rattle.template.specs.declared.element.Back.{Back}
 use Rattle.template.specs.declared.element.RawString.{RawString}
@@ -72,8 +72,8 @@ module _ (text : Bytes) (words : List ℕ) where
     pub act : Allowed text words p.act st
     -- a root that waits takes no gap
     pub gapless : st.stage ≡ S.waiting → S.owner st ≡ S.root → p.gap ≡ None
-    pub here : HereIs text p.here p.marks.end_pos
-    pub previous : p.marks.end_pos ≡ prev_end (with_marks p.marks st)
+    pub here : HereIs text p.here (prev_of p.marks)
+    pub previous : prev_of p.marks ≡ prev_end (with_marks p.marks st)
     pub onward : s.number < p.next
 
   abbrev pub KindMeans : Options → Span → Result Step Refusal → State → Type 0
@@ -92,8 +92,8 @@ module _ (text : Bytes) (words : List ℕ) where
     pub allowed : (k : Tag) (st : State) → kind_of s.tag ≡ tagged k → Visited text v s gap here st → too_many_open k st ≡ false
         → as_name (param_means text words x.name) ≡ name_of (call_at text words x.from s.end) → Allowed text words p.act st
     pub gapped : is_some p.gap ≡ gap
-    pub placed : (st : State) → Visited text v s gap here st → HereIs text p.here p.marks.end_pos
-    pub previous : (st : State) → p.marks.end_pos ≡ prev_end (with_marks p.marks st)
+    pub placed : (st : State) → Visited text v s gap here st → HereIs text p.here (prev_of p.marks)
+    pub previous : (st : State) → prev_of p.marks ≡ prev_end (with_marks p.marks st)
     pub next : p.next ≡ x.next
 
 -- ---- what a step is made of
@@ -113,7 +113,7 @@ raw_front m = if m.omit_pro_ws Front.White (front_of m)
 
 -- the gap before s as a text; no escapes are listed at the count
 abbrev pub gap_text : List ℕ → Marks → Span → RawString
-gap_text words m s = record { start = m.end_pos; end = s.start; escapes = span_count words; front = front_of m; back = Back.Kept }
+gap_text words m s = record { start = prev_of m; end = s.start; escapes = span_count words; front = front_of m; back = Back.Kept }
 
 -- its element, if it is kept
 abbrev pub gap_element : List ℕ → Marks → Span → code.Place → Bool → Option Element
@@ -129,7 +129,7 @@ text_step v s here start g l = record {
   gap = None;
   back = Back.Kept;
   act = A.Add (text_element v s start here.place) N.Leaf;
-  marks = record { stage = g; end_pos = s.end; started = true; omit_pro_ws = v.marks.omit_pro_ws; trim_line_required = l };
+  marks = record { stage = g; end_pos = Some s.end; omit_pro_ws = v.marks.omit_pro_ws; trim_line_required = l };
   here = here;
   next = s.number + 1;
 }

@@ -1,6 +1,7 @@
 // What is open, and the marks that the walk keeps.
 ghost use Rattle.std.specs.Prelude.{◌≡◌};
 ghost use Rattle.template.specs.Turn.{begun};
+ghost use Rattle.template.specs.Visit.{prev_of};
 
 // The kinds of open bodies: the root's, and those of the four block starts.
 #[derive(Clone, Copy)]
@@ -65,12 +66,11 @@ pub enum Stage {
     Full,
 }
 
-// The previous end, and whether there was a previous span; the right-tilde mark; the line mark.
+// The end of the previous span, if there was one; the right-tilde mark; the line mark.
 #[derive(Clone, Copy)]
 pub struct Marks {
     pub stage: Stage,
-    pub end_pos: usize,
-    pub started: bool,
+    pub end_pos: Option<usize>,
     pub omit_pro_ws: bool,
     pub trim_line_required: bool,
 }
@@ -78,9 +78,15 @@ pub struct Marks {
 impl Marks {
     pub const FIRST: Marks = Marks {
         stage: Stage::Waiting,
-        end_pos: 0,
-        started: false,
+        end_pos: None,
         omit_pro_ws: false,
         trim_line_required: false,
     };
+
+    // The previous end, at first 0.
+    pub(crate) fn prev_end(self) -> usize
+        ensures { result ≡ prev_of self }
+    {
+        self.end_pos.unwrap_or(0)
+    }
 }

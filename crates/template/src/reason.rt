@@ -119,7 +119,7 @@ pub(crate) fn checks(text: &[u8], words: &[u32], options: u32) -> Result<Options
 pub(crate) fn kept_gap(m: Marks, s: Span) -> bool
     ensures { KeptIs m s result }
 {
-    if s.start == m.end_pos {
+    if s.start == m.prev_end() {
         return false;
     }
     if m.omit_pro_ws {

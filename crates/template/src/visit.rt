@@ -116,7 +116,7 @@ fn gap_of(words: &[u32], m: Marks, s: Span, place: Place, kept: bool) -> Option<
     }
     Some(Element::new(
         TemplateElement::RawString(RawString {
-            start: m.end_pos,
+            start: m.prev_end(),
             end: s.start,
             escapes: span_count(words),
             front: front_of(m),
@@ -152,8 +152,7 @@ fn skipped(words: &[u32], v: View, s: Span, gap: bool, here: Here) -> Step
         act: Act::Skip,
         marks: Marks {
             stage: stage_after_gap(m.stage, gap),
-            end_pos: s.end,
-            started: true,
+            end_pos: Some(s.end),
             trim_line_required: but_not(m.trim_line_required, gap),
             ..m
         },
@@ -218,8 +217,7 @@ fn text_step(v: View, s: Span, start: usize, here: Here, stage: Stage, line: boo
         act: Act::Add(text_of(v, s, start, here.place), Added::Leaf),
         marks: Marks {
             stage,
-            end_pos: s.end,
-            started: true,
+            end_pos: Some(s.end),
             trim_line_required: line,
             ..v.marks
         },
@@ -234,7 +232,7 @@ fn raw_string(text: &[u8], words: &[u32], v: View, s: Span, here: Here) -> Resul
     requires counted { s.number < max_spans }
     ensures { (o : Options) (gap : Bool) → KindIs text.now words.now o v s gap here result }
 {
-    let start = v.marks.end_pos;
+    let start = v.marks.prev_end();
     if bad_escapes(text, words, start, s.end, s.number + 1) {
         return Err(Refusal {
             reason: Reason::BadEscape,
@@ -345,8 +343,7 @@ fn comment(
         act: Act::Add(e, Added::Leaf),
         marks: Marks {
             stage: stage_after_gap(m.stage, gap),
-            end_pos: s.end,
-            started: true,
+            end_pos: Some(s.end),
             trim_line_required: standalone,
             ..m
         },
@@ -496,8 +493,7 @@ fn step_of(
         act: act_of(s.tag, e),
         marks: Marks {
             stage: stage_of(s.tag),
-            end_pos: s.end,
-            started: true,
+            end_pos: Some(s.end),
             omit_pro_ws: x.omit_pro_ws,
             trim_line_required: line_mark(s.tag, standalone, line),
         },
@@ -613,7 +609,7 @@ pub(crate) fn visit_span(
         return Ok(None);
     };
     let m = v.marks;
-    if s.start < m.end_pos {
+    if s.start < m.prev_end() {
         return Err(Refusal {
             reason: Reason::OutOfOrder,
             place: s.number,

@@ -50,23 +50,24 @@ fn look(
 fn unfinished(text: &[u8], m: Marks, depth: usize) -> bool
     ensures { result ≡ unfinished_at text.now m depth }
 {
-    !is_filling(m.stage) || 0 < depth || m.end_pos < text.len() && !m.started
+    !is_filling(m.stage) || 0 < depth || m.prev_end() < text.len() && m.end_pos.is_none()
 }
 
 // The text after the last previous end, if there is any.
 fn rest_of(text: &[u8], words: &[u32], m: Marks, h: Here) -> Option<Element>
     ensures { RestIs text.now words.now m h result }
 {
-    if m.end_pos < text.len() {
+    let from = m.prev_end();
+    if from < text.len() {
         Some(Element::new(
             TemplateElement::RawString(RawString {
-                start: m.end_pos,
+                start: from,
                 end: text.len(),
                 escapes: span_count(words),
                 front: Front::Kept,
                 back: Back::Kept,
             }),
-            line_col(h.place, part(text, h.at, m.end_pos)),
+            line_col(h.place, part(text, h.at, from)),
         ))
     } else {
         None

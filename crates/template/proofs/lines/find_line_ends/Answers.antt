@@ -1,7 +1,4 @@
 -- The cells up to the offset tell of ends, by the laws of LineLaws. Assumes nothing.
-use mathlib.Core.Path.{◌∙◌}
-use mathlib.Core.Bool.{true}
-use lib.ListN.{length-set}
 use Rattle.template.proofs.LineLaws as laws
 use Rattle.template.proofs.lines.find_line_ends.Goals as goal
 
@@ -14,13 +11,3 @@ pub loop-i-preserved : goal.loop-i-preserved
 loop-i-preserved c =
     let a = c.args in
     laws.ending_on a.text.now c.loop-i.invariant c.loop-i-test.true c.line_across-line.ensures
-
-pub shape_of-ends : goal.shape_of-ends
-shape_of-ends c =
-    let a = c.args in
-    c.loop-i.invariant.same ∙ length-set a.ends.now 0 true
-
-pub returns : goal.returns
-returns c =
-    let a = c.args in
-    laws.ending_ends a.text.now c.loop-i.invariant c.loop-i-test.false

@@ -1,7 +1,4 @@
 -- The cells from the offset on tell of starts, by the laws of LineLaws. Assumes nothing.
-use mathlib.Core.Path.{◌∙◌}
-use mathlib.Core.Bool.{false}
-use lib.ListN.{length, length-set}
 use Rattle.template.proofs.LineLaws as laws
 use Rattle.template.proofs.lines.find_line_starts.Goals as goal
 
@@ -14,13 +11,3 @@ pub loop-i-preserved : goal.loop-i-preserved
 loop-i-preserved c =
     let a = c.args in
     laws.starting_on a.text.now c.loop-i.invariant c.loop-i-test.true c.line_across-line.ensures
-
-pub shape_of-starts : goal.shape_of-starts
-shape_of-starts c =
-    let a = c.args in
-    c.loop-i.invariant.same ∙ length-set a.starts.now (length a.text.now) false
-
-pub returns : goal.returns
-returns c =
-    let a = c.args in
-    laws.starting_ends a.text.now c.loop-i.invariant c.loop-i-test.false

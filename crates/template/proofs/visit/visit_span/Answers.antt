@@ -13,17 +13,17 @@ returns-in_default c =
     laws.visit_end a.text.now a.words.now a.o a.v a.at
     (json.next_none c.in_default.is c.next_span.ensures)
 
-pub returns-then-s-m : goal.returns-then-s-m
-returns-then-s-m c =
+pub returns-then-s-prev_end : goal.returns-then-s-prev_end
+returns-then-s-prev_end c =
     let a = c.args in
     let w = json.next_found c.in-Some.is c.next_span.ensures in
-    laws.visit_early a.text.now a.words.now a.o a.v a.at w (omega arith)
+    laws.visit_early a.text.now a.words.now a.o a.v a.at w (omega (arith, c.prev_end.ensures))
 
 pub returns-then-not-nests : goal.returns-then-not-nests
 returns-then-not-nests c =
     let a = c.args in
     let w = json.next_found c.in-Some.is c.next_span.ensures in
-    laws.visit_out a.text.now a.words.now a.o a.v a.at w (omega arith) c.kept_gap-gap.ensures c.nests.ensures
+    laws.visit_out a.text.now a.words.now a.o a.v a.at w (omega (arith, c.prev_end.ensures)) c.kept_gap-gap.ensures c.nests.ensures
     (ap not c.if-not-nests.true)
 
 pub visit_kind-requires : goal.visit_kind-requires
@@ -36,12 +36,12 @@ returns-in_err-step c =
     let a = c.args in
     let w = json.next_found c.in-Some.is c.next_span.ensures in
     rw (handed_on c.from_residual.ensures.1)
-    (laws.kind_refused a.text.now a.words.now a.o a.v a.at w (omega arith) c.kept_gap-gap.ensures c.nests.ensures c.requires.good (ap not c.if-not-nests.false)
+    (laws.kind_refused a.text.now a.words.now a.o a.v a.at w (omega (arith, c.prev_end.ensures)) c.kept_gap-gap.ensures c.nests.ensures c.requires.good (ap not c.if-not-nests.false)
     c.advance-here.ensures c.in_err-step.ensures)
 
 pub returns : goal.returns
 returns c =
     let a = c.args in
     let w = json.next_found c.in-Some.is c.next_span.ensures in
-    laws.kind_steps a.text.now a.words.now a.o a.v a.at w (omega arith) c.kept_gap-gap.ensures c.nests.ensures c.requires.good (ap not c.if-not-nests.false)
+    laws.kind_steps a.text.now a.words.now a.o a.v a.at w (omega (arith, c.prev_end.ensures)) c.kept_gap-gap.ensures c.nests.ensures c.requires.good (ap not c.if-not-nests.false)
     c.advance-here.ensures c.in_ok-step.ensures

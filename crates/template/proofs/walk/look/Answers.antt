@@ -6,8 +6,5 @@ use Rattle.template.proofs.walk.look.Goals as goal
 pub returns-then-closing : goal.returns-then-closing
 returns-then-closing c = ends.looks_still _ _ _ _ _ _ _ c.if-closing.true refl
 
-pub visit_span-requires : goal.visit_span-requires
-visit_span-requires c = c.requires
-
 pub returns-else-closing : goal.returns-else-closing
 returns-else-closing c = ends.looks_on _ _ _ _ _ _ _ c.if-closing.false c.visit_span.ensures
