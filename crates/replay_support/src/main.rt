@@ -5,7 +5,6 @@
 mod calls;
 mod code_points;
 mod fold;
-mod out;
 mod pairs;
 mod records;
 mod text;
