@@ -7,4 +7,5 @@ mod Stores
 mod FieldLaws
 mod CardLaws
 mod StoredLaws
+mod RecordLaws
 mod Inputs

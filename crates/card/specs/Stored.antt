@@ -1,5 +1,6 @@
--- The stored records of the programs that replay them: a line of text and a line of numbers, one byte between two.
-use Rattle.std.specs.Prelude.{ℕ, zero, suc, ◌-◌, ◌≤◌, min, ◌≡◌, true, false, List, [], ◌∷◌, eqb, length, take, drop}
+-- The stored records of the programs that replay them: a line of text and a line of numbers, one byte between two; or a line with a length, and
+-- so many bytes.
+use Rattle.std.specs.Prelude.{ℕ, zero, suc, ◌-◌, ◌≤◌, ◌<◌, min, ◌≡◌, true, false, List, [], ◌∷◌, eqb, length, take, drop}
 use Rattle.support.specs.Bytes.{Bytes}
 use Rattle.card.specs.Number.{leading_digits, decimal, largest}
 use Rattle.card.specs.Answers.{Stores}
@@ -8,6 +9,10 @@ use Rattle.card.specs.Answers.{Stores}
 unfoldable pub first_line : Bytes → Bytes
 first_line [] = []
 first_line (c ∷ s) = elim (eqb c 10) [ true ↦ [] | false ↦ c ∷ first_line s ]
+
+-- what is left behind the first line and its LF
+abbrev pub after_line : Bytes → Bytes
+after_line s = drop (suc (length (first_line s))) s
 
 -- the number that bytes start with, the largest where it is larger
 abbrev pub first_number : Bytes → ℕ
@@ -38,3 +43,16 @@ pub record WordsIs (line : Bytes) (l m : List ℕ) (r : ℕ) : Type 0 where
   pub count : r ≡ min (length (numbers line)) (length l)
   pub inside : r ≤ length m
   pub part : r ≡ length (take r m)
+
+-- s starts with a record, a line of text and a line of words, before the bytes `rest`
+pub record RecordIs (s text words rest : Bytes) : Type 0 where
+  pub first : text ≡ first_line s
+  pub second : words ≡ first_line (after_line s)
+  pub behind : rest ≡ after_line (after_line s)
+  pub less : length rest < length s
+
+-- s starts with a line with a length and so many bytes, `block`, before the bytes `rest`
+pub record BlockIs (s block rest : Bytes) : Type 0 where
+  pub front : block ≡ take (first_number (first_line s)) (after_line s)
+  pub behind : rest ≡ drop (first_number (first_line s)) (after_line s)
+  pub less : length rest < length s

@@ -1,6 +1,8 @@
-// The stored records of the programs that replay them: a line of text and a line of numbers.
-ghost use Rattle.std.specs.Prelude.{◌≡◌, ◌+◌, length, drop};
-ghost use Rattle.card.specs.Stored.{first_line, FirstLineIs, WordsIs};
+// The stored records of the programs that replay them: a line of text and a line of numbers, or a line
+// with a length and so many bytes.
+ghost use Rattle.std.specs.Prelude.{◌≡◌, ◌+◌, length, drop, [], MatchOption};
+ghost use Rattle.std.specs.Iterator.{at_most};
+ghost use Rattle.card.specs.Stored.{first_line, after_line, FirstLineIs, WordsIs, RecordIs, BlockIs};
 
 use crate::number::read_digits;
 use support::bytes::part;
@@ -34,4 +36,77 @@ pub fn read_words(line: &[u8], words: &mut [u32]) -> usize
         at = number.end + 1;
     }
     words.len()
+}
+
+// The first line, and what stands behind its LF.
+fn split_line(s: &[u8]) -> (&[u8], &[u8])
+    ensures line { result.0.now ≡ first_line s.now }
+    ensures behind { result.1.now ≡ after_line s.now }
+{
+    let line = line_at(s, 0);
+    (line, part(s, line.len() + 1, s.len()))
+}
+
+// The records that are left, each a text and the line of its words.
+#[derive(Drop)]
+pub struct Records<'a> {
+    rest: &'a [u8],
+}
+
+impl<'a> Records<'a> {
+    pub fn new(s: &'a [u8]) -> Records<'a>
+        ensures { result.rest.now ≡ s.now }
+    {
+        Records { rest: s }
+    }
+}
+
+impl<'a> Iterator for Records<'a> {
+    type Item = (&'a [u8], &'a [u8]);
+
+    ghost next_gives = { λ s r t. MatchOption r (s.rest.now ≡ []) (λ (text, words). RecordIs s.rest.now text.now words.now t.rest.now) };
+
+    ghost remaining = { λ s. at_most (length s.rest.now) };
+
+    fn next(&mut self) -> Option<(&'a [u8], &'a [u8])> {
+        if self.rest.is_empty() {
+            return None;
+        }
+        let (text, behind) = split_line(self.rest);
+        let (words, rest) = split_line(behind);
+        self.rest = rest;
+        Some((text, words))
+    }
+}
+
+// The blocks that are left, each the bytes behind a line with their length.
+#[derive(Drop)]
+pub struct Blocks<'a> {
+    rest: &'a [u8],
+}
+
+impl<'a> Blocks<'a> {
+    pub fn new(s: &'a [u8]) -> Blocks<'a>
+        ensures { result.rest.now ≡ s.now }
+    {
+        Blocks { rest: s }
+    }
+}
+
+impl<'a> Iterator for Blocks<'a> {
+    type Item = &'a [u8];
+
+    ghost next_gives = { λ s r t. MatchOption r (s.rest.now ≡ []) (λ block. BlockIs s.rest.now block.now t.rest.now) };
+
+    ghost remaining = { λ s. at_most (length s.rest.now) };
+
+    fn next(&mut self) -> Option<&'a [u8]> {
+        if self.rest.is_empty() {
+            return None;
+        }
+        let (line, behind) = split_line(self.rest);
+        let length = read_digits(line, 0).value as usize;
+        self.rest = part(behind, length, behind.len());
+        Some(part(behind, 0, length))
+    }
 }

@@ -4,7 +4,7 @@
 #![tactic(auto)]
 
 use card::input::read_full;
-use card::stored::{line_at, read_words};
+use card::stored::{Records, read_words};
 use json_path::path::{Path, PathSeg, Relative, next_segment, parse_json_path};
 use json_path::span::{Span, escape_at, next_span, skip_to, span_at, span_count};
 use std::io;
@@ -110,15 +110,9 @@ fn replay_record(rt: &impl Print, text: &[u8], line: &[u8]) -> io::Result<()> {
     show_record(rt, text, &words[..n])
 }
 
-// Stays: `split` would give one more line behind the last LF, which is no record.
 fn replay(rt: &impl Print, input: &[u8]) -> io::Result<()> {
-    let mut at: usize = 0;
-    while at < input.len() {
-        let text = line_at(input, at);
-        let second = at + text.len() + 1;
-        let words = line_at(input, second);
+    for (text, words) in Records::new(input) {
         replay_record(rt, text, words)?;
-        at = second + words.len() + 1;
     }
     Ok(())
 }

@@ -3,10 +3,8 @@
 // and numbers around each power of ten. What is written is compared with that of tools/listing.
 #![tactic(auto)]
 
-ghost use Rattle.std.specs.Prelude.{◌≤◌, ◌<◌};
-
 use card::input::read_full;
-use card::stored::{line_at, read_words};
+use card::stored::{Records, read_words};
 use expression::parameter::Subexpression;
 use json_path::span::{Span, span_at, span_count};
 use listing::children::{write_decorator, write_helper};
@@ -19,22 +17,13 @@ const LIMIT: usize = 65536;
 
 const ROOM: usize = 8192;
 
-// Stays: `Print` says nothing of what it writes, so a public function in `card` could promise nothing.
-fn show(rt: &impl Print, bytes: &[u8]) -> io::Result<()> {
-    rt.write_all(bytes)
-}
-
-fn show_number(rt: &impl Print, n: usize) -> io::Result<()> {
-    rt.print(n)
-}
-
 // One byte, quoted, on a line.
 fn show_byte(rt: &impl Print, b: u8) -> io::Result<()> {
     let text = [b; 1];
     let mut out = [0u8; 8];
     let n = write_quoted(&mut out, 0, &text);
-    show(rt, part(&out, 0, n))?;
-    show(rt, b"\n")
+    rt.write_all(part(&out, 0, n))?;
+    rt.println("")
 }
 
 // Every byte quoted, and all in one text.
@@ -46,78 +35,47 @@ fn show_bytes(rt: &impl Print) -> io::Result<()> {
     }
     let mut out = [0u8; 600];
     let n = write_quoted(&mut out, 0, &all);
-    show(rt, part(&out, 0, n))?;
-    show(rt, b"\n")
+    rt.write_all(part(&out, 0, n))?;
+    rt.println("")
 }
 
 fn show_decimal(rt: &impl Print, n: usize) -> io::Result<()> {
     let mut out = [0u8; 24];
     let m = write_decimal(&mut out, 0, n);
-    show(rt, part(&out, 0, m))?;
-    show(rt, b"\n")
+    rt.write_all(part(&out, 0, m))?;
+    rt.println("")
 }
 
 // One less, the number and one more.
-fn show_around(rt: &impl Print, p: usize) -> io::Result<()>
-    requires { (1 ≤ p) × (p < 0xFFFFFFFFFFFFFFFF) }
-{
-    show_decimal(rt, p - 1)?;
+fn show_around(rt: &impl Print, p: usize) -> io::Result<()> {
+    show_decimal(rt, p.saturating_sub(1))?;
     show_decimal(rt, p)?;
-    show_decimal(rt, p + 1)
+    show_decimal(rt, p.saturating_add(1))
 }
 
 // Each power of ten, and the largest number.
 fn show_numbers(rt: &impl Print) -> io::Result<()> {
-    let mut p: usize = 1;
-    while p <= 1_000_000_000_000_000_000 {
-        show_around(rt, p)?;
-        p *= 10;
+    for i in 0..20 {
+        show_around(rt, 10_usize.saturating_pow(i))?;
     }
-    show_around(rt, p)?;
     show_decimal(rt, usize::MAX)
 }
 
-// What a call measures over no output, and what it writes.
-fn show_written(
+// What a writer measures over no output, and what it writes.
+fn show_written<F: Fn(&mut [u8]) -> usize>(
     rt: &impl Print,
     k: usize,
-    word: &[u8],
-    measured: usize,
-    bytes: &[u8],
-) -> io::Result<()> {
-    show_number(rt, k)?;
-    show(rt, word)?;
-    show_number(rt, measured)?;
-    show(rt, b"\n")?;
-    show(rt, bytes)
-}
-
-fn show_decorator(
-    rt: &impl Print,
-    text: &[u8],
-    words: &[u32],
-    k: usize,
-    link: Subexpression,
-) -> io::Result<()> {
+    word: &str,
+    write: F,
+) -> io::Result<()>
+    requires { F.IsAlwaysCallable write }
+{
     let mut out = [0u8; ROOM];
     let mut none = [0u8; 0];
-    let m = write_decorator(&mut none, 0, text, words, link);
-    let n = write_decorator(&mut out, 0, text, words, link);
-    show_written(rt, k, b" decorator ", m, part(&out, 0, n))
-}
-
-fn show_helper(
-    rt: &impl Print,
-    text: &[u8],
-    words: &[u32],
-    k: usize,
-    link: Subexpression,
-) -> io::Result<()> {
-    let mut out = [0u8; ROOM];
-    let mut none = [0u8; 0];
-    let m = write_helper(&mut none, 0, text, words, link);
-    let n = write_helper(&mut out, 0, text, words, link);
-    show_written(rt, k, b" helper ", m, part(&out, 0, n))
+    let m = write(&mut none);
+    let n = write(&mut out);
+    println!(rt; "{k} {word} {m}")?;
+    rt.write_all(part(&out, 0, n))
 }
 
 // The expression behind a tag that has one, or behind a subexpression.
@@ -131,11 +89,14 @@ fn show_at(rt: &impl Print, text: &[u8], words: &[u32], k: usize) -> io::Result<
         limit: s.end,
         depth: Subexpression::LIMIT,
     };
-    let tag = s.tag;
-    match tag {
+    match s.tag {
         5..=18 | 27 => {
-            show_decorator(rt, text, words, k, link)?;
-            show_helper(rt, text, words, k, link)
+            show_written(rt, k, "decorator", |out| {
+                write_decorator(out, 0, text, words, link)
+            })?;
+            show_written(rt, k, "helper", |out| {
+                write_helper(out, 0, text, words, link)
+            })
         }
         _ => Ok(()),
     }
@@ -143,9 +104,7 @@ fn show_at(rt: &impl Print, text: &[u8], words: &[u32], k: usize) -> io::Result<
 
 fn show_record(rt: &impl Print, text: &[u8], words: &[u32]) -> io::Result<()> {
     let n = span_count(words);
-    show(rt, b"count ")?;
-    show_number(rt, n)?;
-    show(rt, b"\n")?;
+    println!(rt; "count {n}")?;
     for k in 0..n {
         show_at(rt, text, words, k)?;
     }
@@ -159,13 +118,8 @@ fn replay_record(rt: &impl Print, text: &[u8], line: &[u8]) -> io::Result<()> {
 }
 
 fn replay(rt: &impl Print, input: &[u8]) -> io::Result<()> {
-    let mut at: usize = 0;
-    while at < input.len() {
-        let text = line_at(input, at);
-        let second = at + text.len() + 1;
-        let words = line_at(input, second);
+    for (text, words) in Records::new(input) {
         replay_record(rt, text, words)?;
-        at = second + words.len() + 1;
     }
     Ok(())
 }

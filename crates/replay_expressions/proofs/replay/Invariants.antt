@@ -1,6 +1,0 @@
--- Each turn starts behind the last line, so what is left of the input falls.
-use Rattle.std.proofs.Common.{length, ◌-◌}
-use Rattle.replay_expressions.proofs.replay.Given as goal
-
-abbrev pub decreases-loop-at : goal.decreases-loop-at
-decreases-loop-at g l = length l.input - l.at
