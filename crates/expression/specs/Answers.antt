@@ -2,7 +2,7 @@
 use Rattle.std.specs.Prelude.{ℕ, ◌+◌, ◌≤◌, ◌<◌, ◌≡◌, List, [], ◌∷◌, Bool, true, false, Some, None, Result, Ok, Err, IfErr}
 use Rattle.std.specs.Prelude as std
 use Rattle.std.proofs.Math.Option.{Option, none, some}
-use Rattle.support.specs.Bytes.{Bytes, if, part}
+use Rattle.support.specs.Bytes.{Bytes, if}
 use Rattle.json_path.specs.Span.{Span, span_count, spans_from}
 use Rattle.json_path.specs.Answers.{name_means, path_means}
 use Rattle.json_path.specs.declared.path.Name as json_path
@@ -41,7 +41,7 @@ literal_fault LiteralError.OverLimit = OverLimit
 
 -- the kept text: that part of the text, or what it stands for in single quotes
 abbrev pub literal_means : Bytes → declared.Literal → Bytes
-literal_means text l = if l.quoted (requoted (part text l.start l.end)) (part text l.start l.end)
+literal_means text l = if l.quoted (requoted (name_means text l.kept)) (name_means text l.kept)
 
 -- the call that was read, or an empty one
 abbrev pub call_or : Read Expression → Call

@@ -10,7 +10,7 @@ ghost use Rattle.expression.specs.Least.{LeastIs};
 use crate::parameter::{ExpressionSpec, Fault, Hash, Parameter, Part, Parts, Subexpression};
 use crate::parse::{next_part, parse_expression};
 use json_path::path::Name;
-use support::bytes::{part, precedes};
+use support::bytes::precedes;
 
 // The first parameter of a link's parts and the link to the parts after it, or there is none. A part
 // before it that cannot be read is a fault.
@@ -35,7 +35,7 @@ pub fn next_param(
 fn stands_before(text: &[u8], a: Name, b: Name) -> bool
     ensures { result ≡ precedes (name_means text.now a) (name_means text.now b) }
 {
-    precedes(part(text, a.start, a.end), part(text, b.start, b.end))
+    precedes(a.text(text), b.text(text))
 }
 
 // Without a bound every key is above it.

@@ -5,12 +5,11 @@ ghost use Rattle.expression.specs.Answers.{literal_fault, NamesIs};
 use json_path::path::{Name, Path};
 use literal::check::LiteralError;
 
-// A literal's text: the text from `start` to `end`, or, if `quoted`, what that inner text of single
-// quotes stands for.
+// A literal's text: the kept part of the text, or, if `quoted`, what that inner text of single quotes
+// stands for.
 #[derive(Clone, Copy)]
 pub struct Literal {
-    pub start: usize,
-    pub end: usize,
+    pub kept: Name,
     pub quoted: bool,
 }
 
@@ -108,14 +107,8 @@ impl Parameter {
     {
         match self {
             Parameter::Name(n) => Some(n),
-            Parameter::Path(Path::Relative(q)) => Some(Name {
-                start: q.start,
-                end: q.end,
-            }),
-            Parameter::Path(Path::Local(l)) => Some(Name {
-                start: l.start,
-                end: l.end,
-            }),
+            Parameter::Path(Path::Relative(q)) => Some(q.raw),
+            Parameter::Path(Path::Local(l)) => Some(l.raw),
             _ => None,
         }
     }

@@ -14,7 +14,6 @@ use crate::parameter::{
     BlockParam, ExpressionSpec, Fault, Hash, Parameter, Part, Parts, Subexpression,
 };
 use crate::value::{own_span, parse_literal, parse_path};
-use json_path::path::Name;
 use json_path::span::{Span, next_span, skip_to};
 
 // A left tilde, if there is one.
@@ -38,18 +37,9 @@ pub fn parse_block_param(
     ensures { BlockIs words.now limit at result }
 {
     let a = next_span(words, at).ok_or(Fault::Ended)?;
-    let first = Name {
-        start: a.start,
-        end: a.end,
-    };
+    let first = a.into();
     match next_span(words, a.number + 1) {
-        Some(b) if b.end <= limit => {
-            let second = Name {
-                start: b.start,
-                end: b.end,
-            };
-            Ok((BlockParam::Pair(first, second), b.number + 1))
-        }
+        Some(b) if b.end <= limit => Ok((BlockParam::Pair(first, b.into()), b.number + 1)),
         _ => Ok((BlockParam::Single(first), a.number + 1)),
     }
 }
@@ -69,13 +59,7 @@ pub fn parse_name(
     let s = next_span(words, at).ok_or(Fault::Ended)?;
     // Stays: here and below one match over the tag number, document 01's form.
     match s.tag {
-        21..=25 => {
-            let name = Name {
-                start: s.start,
-                end: s.end,
-            };
-            Ok((Parameter::Name(name), s.number + 1))
-        }
+        21..=25 => Ok((Parameter::Name(s.into()), s.number + 1)),
         26 => Ok(parse_path(text, words, s, s.number + 1)),
         27 => parse_subexpression(text, words, s.number + 1, s.end, depth, judged),
         _ => Err(Fault::NotAllowed),
@@ -131,12 +115,12 @@ pub fn parse_hash(
     ensures { HashIs judged text.now words.now depth at result }
 {
     let k = next_span(words, at).ok_or(Fault::Ended)?;
-    let key = Name {
-        start: k.start,
-        end: k.end,
-    };
     let (value, next) = parse_param(text, words, k.number + 1, depth, judged)?;
-    Ok((Hash { key, value }, next))
+    let hash = Hash {
+        key: k.into(),
+        value,
+    };
+    Ok((hash, next))
 }
 
 // The first part of a link's and the link to the others. There is none at the end of the list, and

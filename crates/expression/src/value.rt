@@ -9,7 +9,6 @@ use crate::parameter::{Fault, Literal, Parameter};
 use json_path::path::parse_json_path;
 use json_path::span::{Span, next_span};
 use literal::check::{LiteralError, check_literal, check_quoted};
-use support::bytes::part;
 
 // A parameter's own span: one tag 28 in front of it is passed over.
 #[tactic(auto, unfolding(crate::specs::Readers::read_own_span))]
@@ -39,7 +38,7 @@ fn judge(text: &[u8], l: Literal, judged: bool) -> Result<(), LiteralError>
     if !judged {
         return Ok(());
     }
-    let kept = part(text, l.start, l.end);
+    let kept = l.kept.text(text);
     if l.quoted {
         check_quoted(kept)
     } else {
@@ -60,8 +59,7 @@ pub(crate) fn parse_literal(
 {
     let i = next_span(words, at).ok_or(Fault::Ended)?;
     let mut l = Literal {
-        start: s.start,
-        end: s.end,
+        kept: s.into(),
         quoted: false,
     };
     let mut next = i.number + 1;
@@ -69,8 +67,7 @@ pub(crate) fn parse_literal(
         let q = next_span(words, next).ok_or(Fault::Ended)?;
         if q.tag == 31 {
             l = Literal {
-                start: q.start,
-                end: q.end,
+                kept: q.into(),
                 quoted: true,
             };
             next = q.number + 1;

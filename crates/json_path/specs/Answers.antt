@@ -74,12 +74,12 @@ local_means text o = option_map (λ l. (l.0, name_means text l.1)) o
 
 -- the segments of a relative path
 abbrev pub segments_mean : Bytes → List ℕ → Relative → List Segment
-segments_mean text words p = segments_to text p.end (spans_from words p.from)
+segments_mean text words p = segments_to text p.raw.end (spans_from words p.from)
 
 -- g is the first segment of p; q has p's raw text and the other segments
 pub record Segments (text : Bytes) (words : List ℕ) (p : Relative) (g : PathSeg) (q : Relative) : Type 0 where
   pub first : segments_mean text words p ≡ segment_means text g ∷ segments_mean text words q
-  pub raw : q ≡ record { start = p.start; end = p.end; from = q.from }
+  pub raw : q ≡ record { raw = p.raw; from = q.from }
   pub onward : p.from < q.from
   pub inside : q.from ≤ span_count words
 
@@ -99,13 +99,13 @@ pub data Traversed (text : Bytes) (words : List ℕ) : Relative → List Segment
 
 -- the raw text of a path
 abbrev pub raw_means : Bytes → Path → Bytes
-raw_means text (Path.Relative p) = part text p.start p.end
-raw_means text (Path.Local p) = part text p.start p.end
+raw_means text (Path.Relative p) = name_means text p.raw
+raw_means text (Path.Local p) = name_means text p.raw
 
 -- the path that a value of the code denotes
 abbrev pub path_means : Bytes → List ℕ → Path → spec.Path
-path_means text words (Path.Relative p) = relative (part text p.start p.end) (segments_mean text words p)
-path_means text words (Path.Local p) = local p.level (name_means text p.name) (part text p.start p.end)
+path_means text words (Path.Relative p) = relative (name_means text p.raw) (segments_mean text words p)
+path_means text words (Path.Local p) = local p.level (name_means text p.name) (name_means text p.raw)
 
 -- r is the path of reference s and of the spans from number k on, with the number from which the spans after it are
 pub record PathIs (text : Bytes) (words : List ℕ) (s : Span) (k : ℕ) (r : PathRead) : Type 0 where

@@ -1,7 +1,7 @@
 // Paths: the segments that spans give, and whether they name a local variable.
 ghost use Rattle.std.specs.Prelude.{◌≡◌};
 ghost use Rattle.json_path.specs.Path.{segment_of, ups_and_name, local_name, path_of};
-ghost use Rattle.json_path.specs.Answers.{given_means, local_means, raw_means, segments_mean, path_means, SegmentIs, PathIs};
+ghost use Rattle.json_path.specs.Answers.{name_means, given_means, local_means, raw_means, segments_mean, path_means, SegmentIs, PathIs};
 
 use crate::span::{Span, next_span, skip_to};
 use support::bytes::{part, same_bytes};
@@ -13,6 +13,25 @@ pub struct Name {
     pub end: usize,
 }
 
+impl Name {
+    pub fn text(self, text: &[u8]) -> &[u8]
+        ensures { result.now ≡ name_means text.now self }
+    {
+        part(text, self.start, self.end)
+    }
+}
+
+impl From<Span> for Name {
+    ghost from_gives = { λ s n. n ≡ record { start = s.start; end = s.end } };
+
+    fn from(s: Span) -> Name {
+        Name {
+            start: s.start,
+            end: s.end,
+        }
+    }
+}
+
 #[derive(Clone, Copy)]
 pub enum PathSeg {
     Named(Name),
@@ -21,20 +40,17 @@ pub enum PathSeg {
     Up,
 }
 
-// The raw text from `start` to `end`. The segments are those of the walked spans from number
-// `from` on, up to one that ends past `end`.
+// The segments are those of the walked spans from number `from` on, up to one that ends past the
+// raw text.
 #[derive(Clone, Copy)]
 pub struct Relative {
-    pub start: usize,
-    pub end: usize,
+    pub raw: Name,
     pub from: usize,
 }
 
-// The raw text from `start` to `end`.
 #[derive(Clone, Copy)]
 pub struct Local {
-    pub start: usize,
-    pub end: usize,
+    pub raw: Name,
     pub level: usize,
     pub name: Name,
 }
@@ -62,10 +78,7 @@ fn segment_of(text: &[u8], s: Span) -> Option<PathSeg>
         36 => Some(PathSeg::Root),
         37 => Some(PathSeg::Here),
         38 => Some(PathSeg::Up),
-        39..=40 if !same_bytes(part(text, s.start, s.end), b"this") => Some(PathSeg::Named(Name {
-            start: s.start,
-            end: s.end,
-        })),
+        39..=40 if !same_bytes(s.text(text), b"this") => Some(PathSeg::Named(s.into())),
         _ => None,
     }
 }
@@ -79,7 +92,7 @@ pub fn next_segment(text: &[u8], words: &[u32], path: Relative) -> Option<(PathS
 {
     let mut at = path.from;
     while let Some(s) = next_span(words, at)
-        && s.end <= path.end
+        && s.end <= path.raw.end
     {
         at = s.number + 1;
         if let Some(segment) = segment_of(text, s) {
@@ -129,8 +142,7 @@ impl Path {
     {
         match get_local_path_and_level(text, words, path) {
             Some((level, name)) => Path::Local(Local {
-                start: path.start,
-                end: path.end,
+                raw: path.raw,
                 level,
                 name,
             }),
@@ -143,8 +155,8 @@ impl Path {
         ensures { result.now ≡ raw_means text.now self }
     {
         match self {
-            Path::Relative(p) => part(text, p.start, p.end),
-            Path::Local(p) => part(text, p.start, p.end),
+            Path::Relative(p) => p.raw.text(text),
+            Path::Local(p) => p.raw.text(text),
         }
     }
 }
@@ -153,17 +165,12 @@ impl Path {
 pub fn parse_json_path(text: &[u8], words: &[u32], reference: Span, at: usize) -> PathRead
     ensures { PathIs text.now words.now reference at result }
 {
-    let path = Path::new(
-        text,
-        words,
-        Relative {
-            start: reference.start,
-            end: reference.end,
-            from: at,
-        },
-    );
+    let path = Relative {
+        raw: reference.into(),
+        from: at,
+    };
     PathRead {
-        path,
+        path: Path::new(text, words, path),
         next: skip_to(words, reference.end, at),
     }
 }

@@ -1,7 +1,9 @@
 // Spans from their words, three a span: tag, start, end.
 ghost use Rattle.std.specs.Prelude.{◌≡◌, get_or};
-ghost use Rattle.json_path.specs.Span.{span_count, span_at};
+ghost use Rattle.json_path.specs.Span.{own, span_count, span_at};
 ghost use Rattle.json_path.specs.Answers.{NextIs, EscapeIs, SkipIs};
+
+use support::bytes::part;
 
 #[derive(Clone, Copy)]
 pub struct Span {
@@ -18,6 +20,12 @@ impl Span {
 
     // The tag that the walk and the readers pass over.
     pub const ESCAPE: u32 = 4;
+
+    pub fn text(self, text: &[u8]) -> &[u8]
+        ensures { result.now ≡ own text.now self }
+    {
+        part(text, self.start, self.end)
+    }
 }
 
 // The word at an index, 0 past the end.

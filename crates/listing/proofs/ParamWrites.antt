@@ -85,11 +85,11 @@ param_is {l} {m} {at} {r} text words e w = subst (λ z. Written (write_form (par
 
 -- the kept text, by whether it was rewritten
 module _ {l m : Bytes} {at r : ℕ} (text : Bytes) (i : Literal) where
-  pub kept_rewritten : {s : Bytes} → i.quoted ≡ true → s ≡ part text i.start i.end → Written (quoted (requoted s)) l at m r
+  pub kept_rewritten : {s : Bytes} → i.quoted ≡ true → s ≡ name_means text i.kept → Written (quoted (requoted s)) l at m r
       → Written (quoted (literal_means text i)) l at m r
   kept_rewritten e f w = rw (e, sym f) w
 
-  pub kept_as_written : i.quoted ≡ false → Written (quoted (part text i.start i.end)) l at m r
+  pub kept_as_written : i.quoted ≡ false → Written (quoted (name_means text i.kept)) l at m r
       → Written (quoted (literal_means text i)) l at m r
   kept_as_written e w = rw e w
 

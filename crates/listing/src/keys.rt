@@ -25,7 +25,7 @@ fn key_at<'a, 'b>(text: &'a [u8], words: &'b [u32], e: usize) -> &'a [u8]
     let Some(s) = next_span(words, e) else {
         return part(text, 0, 0);
     };
-    part(text, s.start, s.end)
+    s.text(text)
 }
 
 // How many of the entries, which are in byte order, stand before a key.

@@ -21,7 +21,6 @@ use expression::again::{enter, next_key, next_param};
 use expression::parameter::{Hash, Literal, Parameter, Parts, Subexpression};
 use expression::parse::parse_hash;
 use json_path::path::Name;
-use support::bytes::part;
 
 pub fn write_name(out: &mut [u8], at: usize, text: &[u8], n: Name) -> usize
     ensures { Written (write_form (param_form (name (name_means text.now n)))) out.old at out.new result }
@@ -37,9 +36,9 @@ fn write_kept(out: &mut [u8], at: usize, text: &[u8], l: Literal) -> usize
 {
     let rewritten = l.quoted;
     if rewritten {
-        return write_requoted(out, at, part(text, l.start, l.end));
+        return write_requoted(out, at, l.kept.text(text));
     }
-    write_part(out, at, text, l.start, l.end)
+    write_part(out, at, text, l.kept.start, l.kept.end)
 }
 
 pub fn write_literal(out: &mut [u8], at: usize, text: &[u8], l: Literal) -> usize

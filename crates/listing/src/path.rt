@@ -41,7 +41,7 @@ fn write_relative(out: &mut [u8], at: usize, text: &[u8], words: &[u32], path: R
     ensures { Written (write_form (path_form (path_means text.now words.now (Path.Relative path)))) out.old at out.new result }
 {
     let p = put_bytes(out, at, b"[path ");
-    let q = write_part(out, p, text, path.start, path.end);
+    let q = write_part(out, p, text, path.raw.start, path.raw.end);
     let s = put_bytes(out, q, b"\n");
     let t = write_segments(out, s, text, words, path);
     put_bytes(out, t, b"]\n")
@@ -57,7 +57,7 @@ fn write_local(out: &mut [u8], at: usize, text: &[u8], path: Local) -> usize
     let s = put_bytes(out, q, b" ");
     let t = write_part(out, s, text, name.start, name.end);
     let u = put_bytes(out, t, b" ");
-    let v = write_part(out, u, text, path.start, path.end);
+    let v = write_part(out, u, text, path.raw.start, path.raw.end);
     put_bytes(out, v, b"]\n")
 }
 

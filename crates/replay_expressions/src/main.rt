@@ -16,7 +16,6 @@ use expression::parse::{
 use json_path::path::{Name, Path};
 use json_path::span::{Span, next_span, span_at, span_count};
 use std::io;
-use support::bytes::part;
 
 // How many bytes of input are read.
 const LIMIT: usize = 65536;
@@ -54,7 +53,7 @@ fn show_fault(rt: &impl Print, f: Fault) -> io::Result<()> {
 
 fn show_name(rt: &impl Print, text: &[u8], name: Name) -> io::Result<()> {
     show(rt, b" <")?;
-    show(rt, part(text, name.start, name.end))?;
+    show(rt, name.text(text))?;
     show(rt, b">")
 }
 
@@ -90,14 +89,7 @@ fn show_parameter(rt: &impl Print, text: &[u8], p: Parameter) -> io::Result<()> 
         Parameter::Literal(l) => {
             show(rt, b" literal ")?;
             show_bit(rt, l.quoted)?;
-            show_name(
-                rt,
-                text,
-                Name {
-                    start: l.start,
-                    end: l.end,
-                },
-            )
+            show_name(rt, text, l.kept)
         }
         Parameter::Subexpression(s) => {
             show(rt, b" sub ")?;

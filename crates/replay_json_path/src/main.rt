@@ -8,7 +8,6 @@ use card::stored::{Records, read_words};
 use json_path::path::{Path, PathSeg, Relative, next_segment, parse_json_path};
 use json_path::span::{Span, escape_at, next_span, skip_to, span_at, span_count};
 use std::io;
-use support::bytes::part;
 
 // How many bytes of input are read.
 const LIMIT: usize = 65536;
@@ -30,7 +29,7 @@ fn show_segment(rt: &impl Print, text: &[u8], segment: PathSeg) -> io::Result<()
     match segment {
         PathSeg::Named(name) => {
             rt.print(" seg ")?;
-            rt.write_all(part(text, name.start, name.end))
+            rt.write_all(name.text(text))
         }
         PathSeg::Root => rt.print(" root"),
         PathSeg::Here => rt.print(" here"),
@@ -63,7 +62,7 @@ fn show_path(
         }
         Path::Local(p) => {
             print!(rt; " local {} ", p.level)?;
-            rt.write_all(part(text, p.name.start, p.name.end))?;
+            rt.write_all(p.name.text(text))?;
         }
     }
     rt.print(" raw ")?;

@@ -268,7 +268,7 @@ fn same_name(text: &[u8], a: Option<Name>, b: Option<Name>) -> bool
     ensures { result ≡ same_name (as_name_means text.now a) (as_name_means text.now b) }
 {
     match (a, b) {
-        (Some(x), Some(y)) => same_bytes(part(text, x.start, x.end), part(text, y.start, y.end)),
+        (Some(x), Some(y)) => same_bytes(x.text(text), y.text(text)),
         (None, None) => true,
         _ => false,
     }
@@ -280,7 +280,7 @@ fn is_empty_name(text: &[u8], a: Option<Name>) -> bool
 {
     match a {
         None => false,
-        Some(x) => part(text, x.start, x.end).is_empty(),
+        Some(x) => x.text(text).is_empty(),
     }
 }
 

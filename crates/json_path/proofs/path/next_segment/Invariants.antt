@@ -9,7 +9,7 @@ use Rattle.json_path.proofs.path.next_segment.Given as goal
 
 abbrev pub invariant-loop-s : goal.invariant-loop-s
 invariant-loop-s l = record {
-  same : segments_mean l.text l.words l.path ≡ segments_to l.text l.path.end (spans_from l.words l.at);
+  same : segments_mean l.text l.words l.path ≡ segments_to l.text l.path.raw.end (spans_from l.words l.at);
   onward : l.path.from ≤ l.at;
 }
 

@@ -11,4 +11,4 @@ returns-in_default c =
 pub returns : goal.returns
 returns c =
     let a = c.args in
-    laws.key_next a.words.now a.e a.text.now (json.next_found c.in-Some.is c.next_span.ensures) c.part-2.ensures
+    laws.key_next a.words.now a.e a.text.now (json.next_found c.in-Some.is c.next_span.ensures) c.text.ensures

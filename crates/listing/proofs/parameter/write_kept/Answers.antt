@@ -5,8 +5,7 @@ use Rattle.listing.proofs.parameter.write_kept.Goals as goal
 pub returns-then-rewritten : goal.returns-then-rewritten
 returns-then-rewritten c =
     let a = c.args in
-    let part = c.part in
-    params.kept_rewritten a.text.now a.l c.if-rewritten.true part.ensures c.write_requoted.ensures
+    params.kept_rewritten a.text.now a.l c.if-rewritten.true c.text.ensures c.write_requoted.ensures
 
 pub returns : goal.returns
 returns c =

@@ -5,4 +5,4 @@ use Rattle.template.proofs.reason.same_name.Goals as goal
 pub returns-in-Some-Some : goal.returns-in-Some-Some
 returns-in-Some-Some c =
     let s = c.in-Some-Some in
-    laws.same_names c.args.text.now s.is-0 s.is-1 c.part.ensures c.part-in-Some-Some.ensures c.same_bytes.ensures
+    laws.same_names c.args.text.now s.is-0 s.is-1 c.text.ensures c.text-in-Some-Some.ensures c.same_bytes.ensures
