@@ -1,18 +1,7 @@
--- A turn passes one blank; what is left trims to the same. Assumes nothing.
-use native.Mathlib.Omega.{arith}
-use mathlib.Core.Path.{sym, ◌∙◌}
+-- What is left ends with the last byte that is no blank. Assumes nothing.
 use Rattle.support.proofs.TextLaws as text
 use Rattle.support.proofs.str.trim_end_blanks.Goals as goal
 
-pub returns-then-not-whitespace_matcher : goal.returns-then-not-whitespace_matcher
-returns-then-not-whitespace_matcher c =
-    let l = c.loop-left in
-    text.end_other l.left.now (omega arith) (sym c.whitespace_matcher.ensures ∙ c.if-not-whitespace_matcher.true) ∙ l.invariant
-
-pub loop-left-preserved : goal.loop-left-preserved
-loop-left-preserved c =
-    let l = c.loop-left in
-    text.end_blank l.left.now (omega arith) (sym c.whitespace_matcher.ensures ∙ c.if-not-whitespace_matcher.false) ∙ l.invariant
-
 pub returns : goal.returns
-returns c = text.end_none c.loop-left.left.now (omega arith) ∙ c.loop-left.invariant
+returns c =
+    let e = c.other_end.ensures in text.end_at c.args.s.now c.other_end.result e.inside e.at e.none

@@ -1,40 +1,43 @@
 -- A turn passes one character; what is left trims to the same. Assumes nothing.
-use Prim.Native.Nat.{◌-◌}
 use native.Mathlib.Omega.{arith}
-use mathlib.Core.Path.{sym, ap, ◌∙◌}
-use lib.ListN.{length, drop, length-take, length-drop}
+use mathlib.Core.Path.{◌≡◌, sym, ap, ◌∙◌}
+use lib.ListN.{drop, length-drop}
+use lib.Seq.{drop-drop}
 use Rattle.support.specs.WhiteSpace.{white_length, trim_start}
 use Rattle.support.proofs.Lengths.{length_some, length_none}
 use Rattle.support.proofs.Pieces as pieces
 use Rattle.support.proofs.WhiteLaws as white
 use Rattle.support.proofs.white_space.trim_start.Goals as goal
 
-pub slice_bounds-left-count : goal.slice_bounds-left-count
-slice_bounds-left-count c =
-    let t = c.loop-n.left.now in
-    omega (arith, length_some (white_length t) c.in-Some.ensures, white.white_length_le t)
-
-pub slice_bounds-left-start : goal.slice_bounds-left-start
-slice_bounds-left-start c =
-    let t = c.loop-n.left.now in
-    omega (arith, length_some (white_length t) c.in-Some.ensures, white.white_length_le t)
+pub overflow_add-i : goal.overflow_add-i
+overflow_add-i c =
+    let s = c.args.s.now in
+    let i = c.loop-n.i in
+    let e = ap white_length (sym (pieces.from_here s i)) ∙ (length_some _ c.in-Some.ensures).0 in
+    omega (arith, e, white.white_length_le (drop i s), length-drop i s)
 
 pub loop-n-smaller : goal.loop-n-smaller
 loop-n-smaller c =
-    let t = c.loop-n.left.now in
-    let n = c.in-Some.n in
-    omega (arith, length_some (white_length t) c.in-Some.ensures, white.white_length_le t, length-take (length t - n) (drop n t), length-drop n t)
+    let s = c.args.s.now in
+    let i = c.loop-n.i in
+    let e = ap white_length (sym (pieces.from_here s i)) ∙ (length_some _ c.in-Some.ensures).0 in
+    omega (arith, e, (length_some _ c.in-Some.ensures).1, white.white_length_le (drop i s), length-drop i s)
 
 pub loop-n-preserved : goal.loop-n-preserved
 unfolding trim_start
 loop-n-preserved c =
-    let t = c.loop-n.left.now in
+    let s = c.args.s.now in
+    let i = c.loop-n.i in
     let n = c.in-Some.n in
-    let e = (length_some (white_length t) c.in-Some.ensures).0 in
-    ap trim_start (pieces.from_here t n) ∙ sym (pieces.front_piece white_length t n e (omega (arith, e, white.white_length_le t))) ∙ c.loop-n.invariant
+    let e : white_length (drop i s) ≡ n = ap white_length (sym (pieces.from_here s i)) ∙ (length_some _ c.in-Some.ensures).0 in (
+      omega (arith, e, white.white_length_le (drop i s), length-drop i s),
+      ap trim_start (sym (drop-drop n i s)) ∙ sym (pieces.front_piece white_length (drop i s) n e (omega (arith, e, white.white_length_le (drop i s)))) ∙ c.loop-n.invariant.1,
+    )
 
 pub returns : goal.returns
 unfolding trim_start
 returns c =
-    let t = c.loop-n.left.now in
-    sym (pieces.front_none white_length t (length_none (white_length t) c.in_default.ensures)) ∙ c.loop-n.invariant
+    let s = c.args.s.now in
+    let i = c.loop-n.i in
+    let z = ap white_length (sym (pieces.from_here s i)) ∙ length_none _ c.in_default.ensures in
+    pieces.from_here s i ∙ sym (pieces.front_none white_length (drop i s) z) ∙ c.loop-n.invariant.1
