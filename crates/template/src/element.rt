@@ -121,14 +121,10 @@ impl Element {
         ensures { result ≡ named_element element name place }
     {
         Element {
-            element: element,
-            name: name,
-            place: place,
-            next: 0,
-            template: 0,
-            inverse: 0,
-            inverted: false,
-            chain: false,
+            element,
+            name,
+            place,
+            ..Element::EMPTY
         }
     }
 
@@ -136,17 +132,10 @@ impl Element {
     pub(crate) fn insert_inverse_node(self, before: usize) -> Element
         ensures { result ≡ inverse_node self before }
     {
-        let e = self.element;
-        let n = self.name;
         Element {
-            element: e,
-            name: n,
-            place: Place { line: 0, column: 0 },
-            next: 0,
-            template: 0,
             inverse: before,
-            inverted: false,
             chain: true,
+            ..Element::named(self.element, self.name, Element::EMPTY.place)
         }
     }
 
@@ -154,37 +143,16 @@ impl Element {
     pub(crate) fn followed_by(self, at: usize) -> Element
         ensures { result ≡ followed_by self at }
     {
-        let e = self.element;
-        let n = self.name;
-        let p = self.place;
-        Element {
-            element: e,
-            name: n,
-            place: p,
-            next: at,
-            template: self.template,
-            inverse: self.inverse,
-            inverted: self.inverted,
-            chain: self.chain,
-        }
+        Element { next: at, ..self }
     }
 
     // With the body that begins at `at`.
     pub(crate) fn set_template(self, at: usize) -> Element
         ensures { result ≡ set_template self at }
     {
-        let e = self.element;
-        let n = self.name;
-        let p = self.place;
         Element {
-            element: e,
-            name: n,
-            place: p,
-            next: self.next,
             template: at,
-            inverse: self.inverse,
-            inverted: self.inverted,
-            chain: self.chain,
+            ..self
         }
     }
 
@@ -192,18 +160,11 @@ impl Element {
     pub(crate) fn set_inverse(self, at: usize, inverted: bool, chain: bool) -> Element
         ensures { result ≡ set_inverse self at inverted chain }
     {
-        let e = self.element;
-        let n = self.name;
-        let p = self.place;
         Element {
-            element: e,
-            name: n,
-            place: p,
-            next: self.next,
-            template: self.template,
             inverse: at,
-            inverted: inverted,
-            chain: chain,
+            inverted,
+            chain,
+            ..self
         }
     }
 
@@ -211,49 +172,25 @@ impl Element {
     pub(crate) fn trim_end(self, back: Back) -> Element
         ensures { result ≡ trim_end_of self back }
     {
-        let e = self.element;
-        let n = self.name;
-        let p = self.place;
-        if let TemplateElement::RawString(r) = e {
-            let f = r.front;
-            let b = r.back;
-            let joined = more_of(b, back);
-            return Element {
-                element: TemplateElement::RawString(RawString {
-                    start: r.start,
-                    end: r.end,
-                    escapes: r.escapes,
-                    front: f,
-                    back: joined,
-                }),
-                name: n,
-                place: p,
-                next: self.next,
-                template: self.template,
-                inverse: self.inverse,
-                inverted: self.inverted,
-                chain: self.chain,
-            };
+        let TemplateElement::RawString(r) = self.element else {
+            return self;
+        };
+        let back = more_of(r.back, back);
+        Element {
+            element: TemplateElement::RawString(RawString { back, ..r }),
+            ..self
         }
-        self
     }
 
     pub(crate) fn has_body(self) -> bool
         ensures { result ≡ has_body (role_of self.element) }
     {
-        let e = self.element;
-        match e {
-            TemplateElement::Empty => false,
-            TemplateElement::RawString(_) => false,
-            TemplateElement::Comment(_) => false,
-            TemplateElement::Expression(_) => false,
-            TemplateElement::HtmlExpression(_) => false,
-            TemplateElement::HelperBlock(_) => true,
-            TemplateElement::DecoratorExpression(_) => false,
-            TemplateElement::PartialExpression(_) => false,
-            TemplateElement::DecoratorBlock(_) => true,
-            TemplateElement::PartialBlock(_) => true,
-        }
+        matches!(
+            self.element,
+            TemplateElement::HelperBlock(_)
+                | TemplateElement::DecoratorBlock(_)
+                | TemplateElement::PartialBlock(_)
+        )
     }
 
     // The name of a block's opening tag.
@@ -271,13 +208,9 @@ impl Element {
 fn more_of(first: Back, then: Back) -> Back
     ensures { result ≡ more_of first then }
 {
-    match then {
-        Back::Kept => first,
-        Back::White => Back::White,
-        Back::Blanks => match first {
-            Back::White => Back::White,
-            Back::Kept => Back::Blanks,
-            Back::Blanks => Back::Blanks,
-        },
+    match (first, then) {
+        (_, Back::Kept) => first,
+        (Back::White, Back::Blanks) => first,
+        _ => then,
     }
 }

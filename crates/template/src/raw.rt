@@ -29,15 +29,12 @@ fn last_escape(words: &[u32], from: usize, limit: usize) -> usize
     ensures { numbered words.now from (result - from) ≡ escapes_to limit (escapes_from words.now from) }
 {
     let mut k = from;
-    loop {
-        let Some(x) = escape_at(words, k) else {
-            return k;
-        };
-        if limit < x.end {
-            return k;
-        }
+    while let Some(x) = escape_at(words, k)
+        && x.end <= limit
+    {
         k = x.number + 1;
     }
+    k
 }
 
 // Where the first piece ends: at the next escape, or with the text.

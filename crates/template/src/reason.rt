@@ -50,15 +50,12 @@ fn first_bad(text: &[u8], words: &[u32]) -> usize
     ensures { FirstBadIs text.now words.now result }
 {
     let n = span_count(words);
-    let mut k = 0;
-    while k < n {
-        let s = span_at(words, k);
-        if bad_span(text, s) {
+    for k in 0..n {
+        if bad_span(text, span_at(words, k)) {
             return k;
         }
-        k += 1;
     }
-    k
+    n
 }
 
 // 1 for `prevent_indent` plus 2 for `is_partial`.
@@ -225,19 +222,16 @@ pub(crate) fn bad_escapes(
 {
     let mut least = start;
     let mut k = from;
-    loop {
-        let Some(x) = escape_at(words, k) else {
-            return false;
-        };
-        if limit < x.end {
-            return false;
-        }
+    while let Some(x) = escape_at(words, k)
+        && x.end <= limit
+    {
         if bad_escape(text, least, x) {
             return true;
         }
         least = x.start + 1;
         k += 1;
     }
+    false
 }
 
 // At the walked span, or at the count where the list ends too early.

@@ -1,5 +1,6 @@
 -- The loop keeps that the escapes before `k` and those from `k` on are all; each turn takes one escape further. Assumes nothing.
 use native.Mathlib.Omega.{arith}
+use Rattle.std.proofs.Common.{rules}
 use mathlib.Core.Path.{ap}
 use Rattle.json_path.proofs.Cases as cases
 use Rattle.template.proofs.RawEscapes as escapes
@@ -8,15 +9,13 @@ use Rattle.template.proofs.raw.last_escape.Goals as goal
 pub loop-x-init : goal.loop-x-init
 loop-x-init c = escapes.counting_start c.args.words.now c.args.limit c.args.from
 
-pub returns-in_default : goal.returns-in_default
-returns-in_default c =
-    let loop = c.loop-x in
-    escapes.counting_end loop.invariant (cases.escape_none c.in_default.is c.escape_at.ensures)
+pub returns-in-loop-x : goal.returns-in-loop-x
+returns-in-loop-x c = escapes.counting_end c.loop-x.invariant (cases.escape_none (search rules) c.escape_at.ensures)
 
-pub returns-then-limit-x : goal.returns-then-limit-x
-returns-then-limit-x c =
+pub returns-else-x-limit : goal.returns-else-x-limit
+returns-else-x-limit c =
     let loop = c.loop-x in
-    escapes.counting_stop loop.invariant (cases.escape_found c.in-Some.is c.escape_at.ensures) c.if-limit-x.true
+    escapes.counting_stop loop.invariant (cases.escape_found c.in-Some.is c.escape_at.ensures) (omega (arith, c.if-x-limit.false))
 
 pub overflow_add-k : goal.overflow_add-k
 overflow_add-k c =
@@ -29,4 +28,4 @@ loop-x-smaller c =
 pub loop-x-preserved : goal.loop-x-preserved
 loop-x-preserved c =
     let loop = c.loop-x in
-    escapes.counting_on loop.invariant (cases.escape_found c.in-Some.is c.escape_at.ensures) c.if-limit-x.false
+    escapes.counting_on loop.invariant (cases.escape_found c.in-Some.is c.escape_at.ensures) (omega (arith, c.if-x-limit.true))

@@ -1,5 +1,6 @@
 -- What is bad from the first escape on is bad from the turn's escape on. Assumes nothing.
 use native.Mathlib.Omega.{arith}
+use Rattle.std.proofs.Common.{rules}
 use mathlib.Core.Path.{refl, sym, ◌∙◌}
 use Rattle.json_path.proofs.Cases as cases
 use Rattle.template.proofs.EscapeLaws as laws
@@ -8,22 +9,20 @@ use Rattle.template.proofs.reason.bad_escapes.Goals as goal
 pub loop-x-init : goal.loop-x-init
 loop-x-init c = record { same = refl }
 
-pub returns-in_default : goal.returns-in_default
-returns-in_default c =
-    let loop = c.loop-x in
-    laws.escaping_none loop.invariant (cases.escape_none c.in_default.is c.escape_at.ensures)
+pub returns-in-loop-x : goal.returns-in-loop-x
+returns-in-loop-x c = laws.escaping_none c.loop-x.invariant (cases.escape_none (search rules) c.escape_at.ensures)
 
-pub returns-then-limit-x : goal.returns-then-limit-x
-returns-then-limit-x c =
+pub returns-else-x-limit : goal.returns-else-x-limit
+returns-else-x-limit c =
     let loop = c.loop-x in
     let escape_at = c.escape_at in
-    laws.escaping_past loop.invariant (cases.escape_found c.in-Some.is escape_at.ensures) c.if-limit-x.true
+    laws.escaping_past loop.invariant (cases.escape_found c.in-Some.is escape_at.ensures) (omega (arith, c.if-x-limit.false))
 
 pub returns-then-bad_escape : goal.returns-then-bad_escape
 returns-then-bad_escape c =
     let loop = c.loop-x in
     let escape_at = c.escape_at in
-    laws.escaping_bad loop.invariant (cases.escape_found c.in-Some.is escape_at.ensures) c.if-limit-x.false
+    laws.escaping_bad loop.invariant (cases.escape_found c.in-Some.is escape_at.ensures) (omega (arith, c.if-x-limit.true))
     c.bad_escape.ensures c.if-bad_escape.true
 
 pub overflow_add-least : goal.overflow_add-least
@@ -51,5 +50,5 @@ pub loop-x-preserved : goal.loop-x-preserved
 loop-x-preserved c =
     let loop = c.loop-x in
     let escape_at = c.escape_at in
-    laws.escaping_on loop.invariant (cases.escape_found c.in-Some.is escape_at.ensures) c.if-limit-x.false c.bad_escape.ensures
+    laws.escaping_on loop.invariant (cases.escape_found c.in-Some.is escape_at.ensures) (omega (arith, c.if-x-limit.true)) c.bad_escape.ensures
     c.if-bad_escape.false

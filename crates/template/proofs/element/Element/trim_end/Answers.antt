@@ -19,8 +19,8 @@ not_text (E.PartialExpression d) b h = refl
 not_text (E.DecoratorBlock d) b h = refl
 not_text (E.PartialBlock d) b h = refl
 
-pub returns-in-RawString : goal.returns-in-RawString
-returns-in-RawString c = ap (set_element c.args.self) (rw (c.more_of-joined.ensures, c.in-RawString.is))
+pub returns-in_default : goal.returns-in_default
+returns-in_default c = ap (set_element c.args.self) (sym (not_text c.args.self.element c.args.back c.in_default.not-RawString))
 
 pub returns : goal.returns
-returns c = ap (set_element c.args.self) (sym (not_text c.args.self.element c.args.back c.in_default.not-RawString))
+returns c = ap (set_element c.args.self) (rw (c.more_of-back.ensures, c.in-RawString.is))
