@@ -112,12 +112,12 @@ fn report_comments(rt: &impl Print) -> io::Result<()> {
     })
 }
 
-// One pattern at both ends.
-fn report_matches(rt: &impl Print, start: &str, end: &str, pattern: &[u8]) -> io::Result<()> {
-    report_call(rt, start, Alphabet::Marks, 5, |h, s| {
+// One pattern at both ends, with a name for each.
+fn report_matches(rt: &impl Print, first: &str, second: &str, pattern: &[u8]) -> io::Result<()> {
+    report_call(rt, first, Alphabet::Marks, 5, |h, s| {
         fold_bytes(h, trim_start_matches(s, pattern))
     })?;
-    report_call(rt, end, Alphabet::Marks, 5, |h, s| {
+    report_call(rt, second, Alphabet::Marks, 5, |h, s| {
         fold_bytes(h, trim_end_matches(s, pattern))
     })
 }
