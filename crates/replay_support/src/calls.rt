@@ -58,43 +58,32 @@ fn report_call<F: Fn(u64, &[u8]) -> u64>(
     Ok(())
 }
 
-fn report_blanks<F: Fn(u64, &[u8]) -> u64>(rt: &impl Print, name: &str, call: F) -> io::Result<()>
-    requires { F.IsAlwaysCallable call }
+// A function that answers a part of the string.
+fn report_part<F: Fn(&[u8]) -> &[u8]>(rt: &impl Print, name: &str, f: F) -> io::Result<()>
+    requires { F.IsAlwaysCallable f }
 {
-    report_call(rt, name, Alphabet::Blanks, 7, call)
+    report_call(rt, name, Alphabet::Blanks, 7, |h, s| fold_bytes(h, f(s)))
+}
+
+fn report_flag<F: Fn(&[u8]) -> bool>(rt: &impl Print, name: &str, f: F) -> io::Result<()>
+    requires { F.IsAlwaysCallable f }
+{
+    report_call(rt, name, Alphabet::Blanks, 7, |h, s| fold(h, f(s)))
 }
 
 fn report_lines(rt: &impl Print) -> io::Result<()> {
-    report_blanks(
+    report_part(rt, "strip_first_newline", strip_first_newline)?;
+    report_part(rt, "trim_start_blanks", trim_start_blanks)?;
+    report_part(rt, "trim_end_blanks", trim_end_blanks)?;
+    report_part(
         rt,
-        "strip_first_newline",
-        |h, s| fold_bytes(h, strip_first_newline(s)),
+        "find_trailing_whitespace_chars",
+        find_trailing_whitespace_chars,
     )?;
-    report_blanks(
-        rt,
-        "trim_start_blanks",
-        |h, s| fold_bytes(h, trim_start_blanks(s)),
-    )?;
-    report_blanks(
-        rt,
-        "trim_end_blanks",
-        |h, s| fold_bytes(h, trim_end_blanks(s)),
-    )?;
-    report_blanks(rt, "find_trailing_whitespace_chars", |h, s| {
-        fold_bytes(h, find_trailing_whitespace_chars(s))
-    })?;
-    report_blanks(
-        rt,
-        "ends_with_empty_line",
-        |h, s| fold(h, ends_with_empty_line(s)),
-    )?;
-    report_blanks(
-        rt,
-        "starts_with_empty_line",
-        |h, s| fold(h, starts_with_empty_line(s)),
-    )?;
-    report_blanks(rt, "trim_start", |h, s| fold_bytes(h, trim_start(s)))?;
-    report_blanks(rt, "trim_end", |h, s| fold_bytes(h, trim_end(s)))
+    report_flag(rt, "ends_with_empty_line", ends_with_empty_line)?;
+    report_flag(rt, "starts_with_empty_line", starts_with_empty_line)?;
+    report_part(rt, "trim_start", trim_start)?;
+    report_part(rt, "trim_end", trim_end)
 }
 
 fn report_cuts(rt: &impl Print, name: &str, from: Place) -> io::Result<()> {
@@ -123,12 +112,12 @@ fn report_comments(rt: &impl Print) -> io::Result<()> {
     })
 }
 
-// One pattern at both ends.
-fn report_matches(rt: &impl Print, start: &str, end: &str, pattern: &[u8]) -> io::Result<()> {
-    report_call(rt, start, Alphabet::Marks, 5, |h, s| {
+// One pattern at both ends, with a name for each.
+fn report_matches(rt: &impl Print, first: &str, second: &str, pattern: &[u8]) -> io::Result<()> {
+    report_call(rt, first, Alphabet::Marks, 5, |h, s| {
         fold_bytes(h, trim_start_matches(s, pattern))
     })?;
-    report_call(rt, end, Alphabet::Marks, 5, |h, s| {
+    report_call(rt, second, Alphabet::Marks, 5, |h, s| {
         fold_bytes(h, trim_end_matches(s, pattern))
     })
 }

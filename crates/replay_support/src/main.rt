@@ -13,7 +13,7 @@ use std::io;
 
 fn main(rt: HostRuntime) -> io::Result<()> {
     code_points::report(&rt)?;
-    records::report(&rt, &mut rt.stdin())?;
+    records::report(&rt, rt.stdin())?;
     calls::report(&rt)?;
     pairs::report(&rt)
 }

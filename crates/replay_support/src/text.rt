@@ -40,6 +40,7 @@ impl Alphabet {
 }
 
 // A string in memory of its own.
+// Stays: there is no heap, so the memory is an array, and its length is in the same struct.
 #[derive(Drop)]
 pub struct Text {
     bytes: [u8; 64],
