@@ -4,7 +4,7 @@
 #![tactic(auto)]
 
 use card::input::read_full;
-use card::stored::{line_at, read_words};
+use card::stored::{Records, read_words};
 use expression::again::{enter, next_key, next_param};
 use expression::parameter::{
     BlockParam, ExpressionSpec, Fault, Hash, Parameter, Parts, Subexpression,
@@ -20,83 +20,62 @@ use std::io;
 // How many bytes of input are read.
 const LIMIT: usize = 65536;
 
-// Stays: `Print` says nothing of what it writes, so a public function in `card` could promise nothing.
-fn show(rt: &impl Print, bytes: &[u8]) -> io::Result<()> {
-    rt.write_all(bytes)
-}
-
-fn show_number(rt: &impl Print, n: usize) -> io::Result<()> {
-    rt.print(n)
-}
-
-fn show_bit(rt: &impl Print, b: bool) -> io::Result<()> {
-    if b { show(rt, b"1") } else { show(rt, b"0") }
-}
-
 // The number of the next walked span, or `end`.
 fn show_then(rt: &impl Print, words: &[u32], k: usize) -> io::Result<()> {
-    show(rt, b" then ")?;
     match next_span(words, k) {
-        Some(s) => show_number(rt, s.number),
-        None => show(rt, b"end"),
+        Some(s) => print!(rt; " then {}", s.number),
+        None => rt.print(" then end"),
     }
 }
 
 fn show_fault(rt: &impl Print, f: Fault) -> io::Result<()> {
     match f {
-        Fault::Ended => show(rt, b" ended"),
-        Fault::NotAllowed => show(rt, b" not-allowed"),
-        Fault::InvalidLiteral => show(rt, b" invalid"),
-        Fault::OverLimit => show(rt, b" over"),
+        Fault::Ended => rt.print(" ended"),
+        Fault::NotAllowed => rt.print(" not-allowed"),
+        Fault::InvalidLiteral => rt.print(" invalid"),
+        Fault::OverLimit => rt.print(" over"),
     }
 }
 
+fn show_slice(rt: &impl Print, bytes: &[u8]) -> io::Result<()> {
+    rt.print(" <")?;
+    rt.write_all(bytes)?;
+    rt.print(">")
+}
+
 fn show_name(rt: &impl Print, text: &[u8], name: Name) -> io::Result<()> {
-    show(rt, b" <")?;
-    show(rt, name.text(text))?;
-    show(rt, b">")
+    show_slice(rt, name.text(text))
 }
 
 // The name that a parameter gives.
 fn show_as_name(rt: &impl Print, text: &[u8], p: Parameter) -> io::Result<()> {
     match p.as_name() {
         Some(name) => show_name(rt, text, name),
-        None => show(rt, b" nameless"),
+        None => rt.print(" nameless"),
     }
 }
 
 fn show_path(rt: &impl Print, text: &[u8], path: Path) -> io::Result<()> {
     match path {
-        Path::Relative(_) => show(rt, b" path <")?,
-        Path::Local(p) => {
-            show(rt, b" local ")?;
-            show_number(rt, p.level)?;
-            show(rt, b" <")?;
-        }
+        Path::Relative(_) => rt.print(" path")?,
+        Path::Local(p) => print!(rt; " local {}", p.level)?,
     }
-    show(rt, path.raw(text))?;
-    show(rt, b">")
+    show_slice(rt, path.raw(text))
 }
 
 // A subexpression is shown by its link: what it holds stands in the line of its tag.
 fn show_parameter(rt: &impl Print, text: &[u8], p: Parameter) -> io::Result<()> {
     match p {
         Parameter::Name(name) => {
-            show(rt, b" name")?;
+            rt.print(" name")?;
             show_name(rt, text, name)
         }
         Parameter::Path(path) => show_path(rt, text, path),
         Parameter::Literal(l) => {
-            show(rt, b" literal ")?;
-            show_bit(rt, l.quoted)?;
+            print!(rt; " literal {}", u8::from(l.quoted))?;
             show_name(rt, text, l.kept)
         }
-        Parameter::Subexpression(s) => {
-            show(rt, b" sub ")?;
-            show_number(rt, s.limit)?;
-            show(rt, b" ")?;
-            show_number(rt, s.depth)
-        }
+        Parameter::Subexpression(s) => print!(rt; " sub {} {}", s.limit, s.depth),
     }
 }
 
@@ -134,12 +113,13 @@ fn show_read<T: Copy, F: Fn(T) -> io::Result<()>>(
 }
 
 // The parameters in order.
+// Stays: `loop`. A `while let` would lose the fault that the parameters may end with.
 fn show_params(rt: &impl Print, text: &[u8], words: &[u32], parts: Parts) -> io::Result<()> {
     let mut rest = parts;
     loop {
         match next_param(text, words, rest) {
             Ok(Some((v, after))) => {
-                show(rt, b" param")?;
+                rt.print(" param")?;
                 show_parameter(rt, text, v)?;
                 rest = after;
             }
@@ -155,7 +135,7 @@ fn show_keys(rt: &impl Print, text: &[u8], words: &[u32], parts: Parts) -> io::R
     for _ in 0..span_count(words) {
         match next_key(text, words, parts, bound) {
             Ok(Some(h)) => {
-                show(rt, b" key")?;
+                rt.print(" key")?;
                 show_hash(rt, text, h)?;
                 bound = Some(h.key);
             }
@@ -172,19 +152,17 @@ fn show_expression(
     words: &[u32],
     x: ExpressionSpec,
 ) -> io::Result<()> {
-    show(rt, b" ")?;
-    show_bit(rt, x.omit_pre_ws)?;
+    print!(rt; " {}", u8::from(x.omit_pre_ws))?;
     show_parameter(rt, text, x.name)?;
     show_as_name(rt, text, x.name)?;
     show_params(rt, text, words, x.parts)?;
     show_keys(rt, text, words, x.parts)?;
-    show(rt, b" as")?;
+    rt.print(" as")?;
     match x.block_param {
         Some(block) => show_block_param(rt, text, block)?,
-        None => show(rt, b" none")?,
+        None => rt.print(" none")?,
     }
-    show(rt, b" ")?;
-    show_bit(rt, x.omit_pro_ws)?;
+    print!(rt; " {}", u8::from(x.omit_pro_ws))?;
     show_then(rt, words, x.next)
 }
 
@@ -203,60 +181,50 @@ fn show_expression_read(
 // What each reader answers behind number `k`, up to the end of the span there.
 fn show_at(rt: &impl Print, text: &[u8], words: &[u32], k: usize, depth: usize) -> io::Result<()> {
     let s = span_at(words, k);
-    let at = after(words, k);
-    show_number(rt, k)?;
-    show(rt, b" tilde")?;
+    let at = k.saturating_add(1);
+    print!(rt; "{k} tilde")?;
     show_read(rt, words, parse_tilde(words, at), |left| {
-        show(rt, b" ")?;
-        show_bit(rt, left)
+        print!(rt; " {}", u8::from(left))
     })?;
-    show(rt, b" | block")?;
+    rt.print(" | block")?;
     let block = parse_block_param(words, at, s.end);
     show_read(rt, words, block, |b| show_block_param(rt, text, b))?;
-    show(rt, b" | name")?;
+    rt.print(" | name")?;
     let name = parse_name(text, words, at, depth, true);
     show_read(rt, words, name, |p| show_parameter(rt, text, p))?;
-    show(rt, b" | param")?;
+    rt.print(" | param")?;
     let param = parse_param(text, words, at, depth, true);
     show_read(rt, words, param, |p| show_parameter(rt, text, p))?;
-    show(rt, b" | hash")?;
+    rt.print(" | hash")?;
     let hash = parse_hash(text, words, at, depth, true);
     show_read(rt, words, hash, |h| show_hash(rt, text, h))?;
-    show(rt, b" | sub")?;
+    rt.print(" | sub")?;
     let sub = parse_subexpression(text, words, at, s.end, depth, true);
     show_read(rt, words, sub, |p| show_parameter(rt, text, p))?;
-    show(rt, b" | expression")?;
+    rt.print(" | expression")?;
     let expression = parse_expression(text, words, at, s.end, depth, true);
     show_expression_read(rt, text, words, expression)?;
-    show(rt, b"\n")
+    rt.println("")
 }
 
 // The same by a link, with the full depth and with literals as they stand.
 fn show_entered(rt: &impl Print, text: &[u8], words: &[u32], k: usize) -> io::Result<()> {
     let s = span_at(words, k);
     let link = Subexpression {
-        from: after(words, k),
+        from: k.saturating_add(1),
         limit: s.end,
         depth: Subexpression::LIMIT,
     };
-    show_number(rt, k)?;
-    show(rt, b" entered")?;
+    print!(rt; "{k} entered")?;
     show_expression_read(rt, text, words, enter(text, words, link))?;
-    show(rt, b"\n")
-}
-
-// The number after `k`, as far as there are spans.
-fn after(words: &[u32], k: usize) -> usize {
-    if k < span_count(words) { k + 1 } else { k }
+    rt.println("")
 }
 
 // Every number up to one past the last span, with a depth of 0, 1 and 2 in turn and by a link, and the
 // largest number of all.
 fn show_record(rt: &impl Print, text: &[u8], words: &[u32]) -> io::Result<()> {
     let n = span_count(words);
-    show(rt, b"count ")?;
-    show_number(rt, n)?;
-    show(rt, b"\n")?;
+    println!(rt; "count {n}")?;
     for k in 0..n + 1 {
         show_at(rt, text, words, k, k % 3)?;
         show_entered(rt, text, words, k)?;
@@ -271,13 +239,8 @@ fn replay_record(rt: &impl Print, text: &[u8], line: &[u8]) -> io::Result<()> {
 }
 
 fn replay(rt: &impl Print, input: &[u8]) -> io::Result<()> {
-    let mut at: usize = 0;
-    while at < input.len() {
-        let text = line_at(input, at);
-        let second = at + text.len() + 1;
-        let words = line_at(input, second);
+    for (text, words) in Records::new(input) {
         replay_record(rt, text, words)?;
-        at = second + words.len() + 1;
     }
     Ok(())
 }
