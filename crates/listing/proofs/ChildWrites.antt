@@ -32,9 +32,10 @@ pair_line : (a b : Bytes)
 unfolding write_form write_head write_fields write_field
 pair_line a b = simp (append-nil, append_assoc)
 
-pub pair_bytes : (a b : Bytes) → write_forms (block_param_forms (pair a b) nil) ≡ ascii "[as " ++ (quoted a ++ (ascii " " ++ (quoted b ++ ascii "]\n")))
+pub pair_bytes : (a b : Bytes)
+    → write_forms (block_param_forms (pair a b) nil) ≡ (ascii "[as " ++ (quoted a ++ ascii " ")) ++ (ascii "" ++ (quoted b ++ ascii "]\n"))
 unfolding write_form
-pair_bytes a b = append-nil (write_form (line Word.as_params (quote a ∷ quote b ∷ []))) ∙ pair_line a b
+pair_bytes a b = append-nil (write_form (line Word.as_params (quote a ∷ quote b ∷ []))) ∙ pair_line a b ∙ simp (append_assoc)
 
 -- the block parameters told by their case
 module _ {l m : Bytes} {at r : ℕ} (text : Bytes) {b : Option BlockParam} where

@@ -8,7 +8,7 @@ ghost use Rattle.listing.specs.Children.{decorator_children, helper_children};
 ghost use Rattle.listing.specs.Written.{Written};
 
 use crate::parameter::write_call;
-use crate::write::{put_bytes, write_part};
+use crate::write::{put_bytes, write_line};
 use expression::parameter::{BlockParam, Subexpression};
 use expression::parse::parse_expression;
 use json_path::path::Name;
@@ -16,19 +16,14 @@ use json_path::path::Name;
 fn write_single(out: &mut [u8], at: usize, text: &[u8], a: Name) -> usize
     ensures { Written (write_forms (block_param_forms (single (name_means text.now a)) nil)) out.old at out.new result }
 {
-    let p = put_bytes(out, at, b"[as ");
-    let q = write_part(out, p, text, a.start, a.end);
-    put_bytes(out, q, b"]\n")
+    write_line(out, at, b"[as ", text, a, b"]\n")
 }
 
 fn write_pair(out: &mut [u8], at: usize, text: &[u8], a: Name, b: Name) -> usize
     ensures { Written (write_forms (block_param_forms (pair (name_means text.now a) (name_means text.now b)) nil)) out.old at out.new result }
 {
-    let p = put_bytes(out, at, b"[as ");
-    let q = write_part(out, p, text, a.start, a.end);
-    let s = put_bytes(out, q, b" ");
-    let t = write_part(out, s, text, b.start, b.end);
-    put_bytes(out, t, b"]\n")
+    let p = write_line(out, at, b"[as ", text, a, b" ");
+    write_line(out, p, b"", text, b, b"]\n")
 }
 
 // `[as ..]` with one name or two, or nothing.
@@ -62,6 +57,7 @@ pub fn write_decorator(
 }
 
 // The same, and the block parameters.
+// Stays: what the two share is `write_call`; one function that is told whether block parameters follow would be no plainer.
 pub fn write_helper(
     out: &mut [u8],
     at: usize,

@@ -16,7 +16,7 @@ ghost use Rattle.listing.specs.Written.{Written};
 use crate::keys::hold_keys;
 use crate::path::write_path;
 use crate::requote::write_requoted;
-use crate::write::{put_bytes, write_part};
+use crate::write::{put_bytes, write_line, write_part};
 use expression::again::{enter, next_key, next_param};
 use expression::parameter::{Hash, Literal, Parameter, Parts, Subexpression};
 use expression::parse::parse_hash;
@@ -25,9 +25,7 @@ use json_path::path::Name;
 pub fn write_name(out: &mut [u8], at: usize, text: &[u8], n: Name) -> usize
     ensures { Written (write_form (param_form (name (name_means text.now n)))) out.old at out.new result }
 {
-    let p = put_bytes(out, at, b"[name ");
-    let q = write_part(out, p, text, n.start, n.end);
-    put_bytes(out, q, b"]\n")
+    write_line(out, at, b"[name ", text, n, b"]\n")
 }
 
 // The kept text, quoted.
@@ -53,9 +51,7 @@ pub fn write_literal(out: &mut [u8], at: usize, text: &[u8], l: Literal) -> usiz
 fn write_key(out: &mut [u8], at: usize, text: &[u8], k: Name) -> usize
     ensures { Written (ascii "[key " ++ (quoted (name_means text.now k) ++ ascii "\n")) out.old at out.new result }
 {
-    let p = put_bytes(out, at, b"[key ");
-    let q = write_part(out, p, text, k.start, k.end);
-    put_bytes(out, q, b"\n")
+    write_line(out, at, b"[key ", text, k, b"\n")
 }
 
 #[cycle(writers)]
@@ -163,13 +159,11 @@ fn write_held(
     ensures { Written (write_forms (key_forms (held_keys text.now words.now depth held.now) nil)) out.old at out.new result }
 {
     let mut p = at;
-    let mut i = 0;
-    while i < held.len() {
-        let Ok((hash, _)) = parse_hash(text, words, held[i], depth, false) else {
+    for e in held {
+        let Ok((hash, _)) = parse_hash(text, words, *e, depth, false) else {
             return p;
         };
         p = write_hash(out, p, text, words, hash);
-        i += 1;
     }
     p
 }

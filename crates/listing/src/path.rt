@@ -5,7 +5,7 @@ ghost use Rattle.listing.specs.Form.{write_form, write_forms};
 ghost use Rattle.listing.specs.Listing.{segment_form, segment_forms, path_form};
 ghost use Rattle.listing.specs.Written.{Written};
 
-use crate::write::{put_bytes, write_decimal, write_part};
+use crate::write::{put_bytes, write_decimal, write_line, write_part};
 use json_path::path::{Local, Path, PathSeg, Relative, next_segment};
 
 fn write_segment(out: &mut [u8], at: usize, text: &[u8], segment: PathSeg) -> usize
@@ -15,11 +15,7 @@ fn write_segment(out: &mut [u8], at: usize, text: &[u8], segment: PathSeg) -> us
         PathSeg::Root => put_bytes(out, at, b"[root]\n"),
         PathSeg::Here => put_bytes(out, at, b"[here]\n"),
         PathSeg::Up => put_bytes(out, at, b"[up]\n"),
-        PathSeg::Named(name) => {
-            let p = put_bytes(out, at, b"[seg ");
-            let q = write_part(out, p, text, name.start, name.end);
-            put_bytes(out, q, b"]\n")
-        }
+        PathSeg::Named(name) => write_line(out, at, b"[seg ", text, name, b"]\n"),
     }
 }
 

@@ -59,6 +59,7 @@ fn requoted_cost(inner: &[u8]) -> usize
     };
     let mut n = cost_alone(*last) as usize;
     let mut rest = inner;
+    // Stays: each block has the first byte of the next one, and `chunks` gives none that overlap.
     while 33 < rest.len() {
         n = n.saturating_add(block_cost(&rest[..33]));
         rest = &rest[32..];

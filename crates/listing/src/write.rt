@@ -1,9 +1,11 @@
 // One byte, a quoted text, a decimal number.
-ghost use Rattle.std.specs.Prelude.{◌≡◌, [], ◌∷◌, ◌+◌, ◌≤◌, ◌<◌, length, take, MatchBool};
+ghost use Rattle.std.specs.Prelude.{◌≡◌, [], ◌∷◌, ◌++◌, ◌+◌, ◌≤◌, ◌<◌, length, take, MatchBool};
 ghost use Rattle.support.specs.Bytes.{part};
+ghost use Rattle.json_path.specs.Answers.{name_means};
 ghost use Rattle.listing.specs.Quoted.{quoted, decimal, escape, escaped};
 ghost use Rattle.listing.specs.Written.{Written};
 
+use json_path::path::Name;
 use support::bytes::part;
 
 // Stores one byte. A position that would pass the largest number stops there.
@@ -54,6 +56,7 @@ pub(crate) fn put_escaped(out: &mut [u8], at: usize, b: u8) -> usize
     }
 }
 
+// Stays: it says which bytes `put_escaped` gives an escape; what that is would be one more test for each byte of a block.
 fn has_escape(b: u8) -> bool
     ensures { MatchBool result (length (escape b) ≡ 2) (escape b ≡ b ∷ []) }
 {
@@ -73,6 +76,7 @@ fn more(b: u8) -> u8
 }
 
 // How many bytes of a block have an escape, counted in a byte, so that one instruction does many bytes.
+// Stays: `filter(..).count()` counts in a `usize`, which one instruction does for an eighth as many.
 fn escapes_in(block: &[u8]) -> usize
     requires { length block.now ≤ 128 }
     ensures { (result ≤ length block.now) × (length (escaped block.now) ≡ length block.now + result) }
@@ -109,6 +113,7 @@ fn write_each(out: &mut [u8], at: usize, text: &[u8]) -> usize
 }
 
 // The place `i` of a byte that has an escape, 64 for any other.
+// Stays: one instruction takes the least of many bytes, which an `Option` is not.
 fn stop_at(b: u8, i: u8) -> u8
     ensures { i < result → escape b ≡ b ∷ [] }
 {
@@ -136,6 +141,7 @@ fn write_runs(out: &mut [u8], at: usize, block: &[u8]) -> usize
 {
     let mut p = at;
     let mut rest = block;
+    // Stays: a turn takes as many bytes as stand plain, which no iterator counts.
     loop {
         let (plain, marked) = rest.split_at(plain_front(rest));
         p = put_bytes(out, p, plain);
@@ -148,6 +154,7 @@ fn write_runs(out: &mut [u8], at: usize, block: &[u8]) -> usize
 }
 
 // A block as it stands between quotes, in the way that its number of escapes makes quickest.
+// Stays: a text's last block is shorter than 64 bytes, so no type says this bound.
 fn write_block(out: &mut [u8], at: usize, block: &[u8]) -> usize
     requires { length block.now ≤ 64 }
     ensures { Written (escaped block.now) out.old at out.new result }
@@ -211,7 +218,24 @@ pub fn write_part(out: &mut [u8], at: usize, text: &[u8], start: usize, end: usi
     write_quoted(out, at, part(text, start, end))
 }
 
+// A line: its head, a name, quoted, and its tail.
+pub(crate) fn write_line(
+    out: &mut [u8],
+    at: usize,
+    head: &[u8],
+    text: &[u8],
+    name: Name,
+    tail: &[u8],
+) -> usize
+    ensures { Written (head.now ++ (quoted (name_means text.now name) ++ tail.now)) out.old at out.new result }
+{
+    let p = put_bytes(out, at, head);
+    let q = write_part(out, p, text, name.start, name.end);
+    put_bytes(out, q, tail)
+}
+
 // A number in decimal.
+// Stays: a loop would find the last digit first, and the first is written first.
 pub fn write_decimal(out: &mut [u8], at: usize, n: usize) -> usize
     ensures { Written (decimal n) out.old at out.new result }
 {

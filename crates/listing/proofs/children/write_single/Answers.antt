@@ -1,13 +1,6 @@
--- `listing::children::write_single` meets its contract: the pieces of the form, one after the other. Assumes nothing.
-use native.Mathlib.Omega.{arith}
+-- `listing::children::write_single` meets its contract: the form is a line. Assumes nothing.
 use Rattle.listing.proofs.ChildWrites as children
-use Rattle.listing.proofs.PathWrites as paths
 use Rattle.listing.proofs.children.write_single.Goals as goal
 
 pub returns : goal.returns
-returns c =
-    let good = c.well_formed in
-    let put_bytes = c.put_bytes-p in
-    let write_part = c.write_part-q in
-    rw (children.single_bytes _)
-    (paths.three (omega (arith, good.0.0)) put_bytes.ensures write_part.ensures c.put_bytes.ensures)
+returns c = rw (children.single_bytes _) c.write_line.ensures

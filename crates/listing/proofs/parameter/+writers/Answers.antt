@@ -1,7 +1,7 @@
 -- The writers of parameters, keys and calls meet their contracts: what is written falls in size from call to call, and the loops write what is left. Assumes nothing.
 use native.Mathlib.Omega.{arith}
 use Rattle.std.proofs.Common.{rules}
-use mathlib.Core.Path.{ap, ◌∙◌}
+use mathlib.Core.Path.{ap}
 use Rattle.listing.specs.Listing.{param_form}
 use Rattle.expression.specs.Answers.{param_means}
 use Rattle.expression.proofs.Cases as cases
@@ -47,36 +47,30 @@ write_hash-returns t c =
     (writes.written_then (omega (arith, good.0.0)) write_key.ensures
     (writes.written_then (omega (arith, good.0.0, writes.written_length write_key.ensures)) write_param.ensures c.put_bytes.ensures))
 
-pub write_held-loop-i-init : goal.write_held-loop-i-init
-write_held-loop-i-init t c =
+pub write_held-loop-e-init : goal.write_held-loop-e-init
+write_held-loop-e-init t c =
     let a = c.args in
     held_writes.held_begins a.text.now a.words.now a.depth a.held.now a.out.now a.at (omega arith)
 
 pub write_held-returns-in_default : goal.write_held-returns-in_default
 write_held-returns-in_default t c =
     let a = c.args in
-    let l = c.loop-i in
-    absurd (held_writes.entry_read a.text.now a.words.now a.depth a.held.now l.i c.requires c.loop-i-test.true c.in_default.is c.parse_hash.ensures)
+    let l = c.loop-e in
+    absurd (held_writes.entry_read a.text.now a.words.now a.depth a.held.now l.e-index c.requires c.loop-e-test.true c.in_default.is c.parse_hash.ensures)
 
 pub write_held-write_hash-p-requires : goal.write_held-write_hash-p-requires
 write_held-write_hash-p-requires t c =
-    let l = c.loop-i in
-    let s = held_writes.held_less l.invariant c.loop-i-test.true c.in-Ok.is c.parse_hash.ensures in
+    let l = c.loop-e in
+    let s = held_writes.held_less l.invariant c.loop-e-test.true c.in-Ok.is c.parse_hash.ensures in
     (omega (arith, c.decreases), tt)
 
-pub write_held-overflow_add-i : goal.write_held-overflow_add-i
-write_held-overflow_add-i t c = omega (arith, c.loop-i-test.true, c.well_formed)
-
-pub write_held-loop-i-smaller : goal.write_held-loop-i-smaller
-write_held-loop-i-smaller t c = omega (arith, c.loop-i-test.true)
-
-pub write_held-loop-i-preserved : goal.write_held-loop-i-preserved
-write_held-loop-i-preserved t c =
-    let l = c.loop-i in
-    held_writes.held_on l.invariant c.loop-i-test.true c.in-Ok.is c.parse_hash.ensures (omega (arith, c.well_formed.0.0)) c.write_hash-p.ensures
+pub write_held-loop-e-preserved : goal.write_held-loop-e-preserved
+write_held-loop-e-preserved t c =
+    let l = c.loop-e in
+    held_writes.held_on l.invariant c.loop-e-test.true c.in-Ok.is c.parse_hash.ensures (omega (arith, c.well_formed.0.0)) c.write_hash-p.ensures
 
 pub write_held-returns : goal.write_held-returns
-write_held-returns t c = held_writes.held_done c.loop-i.invariant c.loop-i-test.false
+write_held-returns t c = held_writes.held_done c.loop-e.invariant c.loop-e-test.false
 
 pub write_keys-slice_bounds-write_held-end : goal.write_keys-slice_bounds-write_held-end
 write_keys-slice_bounds-write_held-end t c =

@@ -37,11 +37,8 @@ decreases-write_params l = 4 * params.params_all l.text.now l.words.now l.parts 
 abbrev pub decreases-write_subexpression : goal.decreases-write_subexpression
 decreases-write_subexpression l = 4 * param_size (param_means l.text.now l.words.now (Parameter.Subexpression l.s))
 
-abbrev pub invariant-write_held-loop-i : goal.invariant-write_held-loop-i
-invariant-write_held-loop-i l = held_writes.HeldLeft l.text l.words l.depth l.held l.initial.out l.at l.i l.out l.p
-
-abbrev pub decreases-write_held-loop-i : goal.decreases-write_held-loop-i
-decreases-write_held-loop-i l = length l.held - l.i
+abbrev pub invariant-write_held-loop-e : goal.invariant-write_held-loop-e
+invariant-write_held-loop-e l = held_writes.HeldLeft l.text l.words l.depth l.held l.initial.out l.at l.e-index l.out l.p
 
 abbrev pub invariant-write_least_keys-loop-h : goal.invariant-write_least_keys-loop-h
 invariant-write_least_keys-loop-h l = params.KeysLeft l.text l.words l.parts l.initial.out l.at l.bound l.out l.p

@@ -1,5 +1,4 @@
 -- `listing::path::write_segment` meets its contract: a form for each case of the segment. Assumes nothing.
-use native.Mathlib.Omega.{arith}
 use Rattle.listing.specs.Form.{write_form, write_head, write_fields}
 use Rattle.listing.proofs.PathWrites as paths
 use Rattle.listing.proofs.path.write_segment.Goals as goal
@@ -25,9 +24,4 @@ returns-in-Up c =
 pub returns-in-Named : goal.returns-in-Named
 returns-in-Named c =
     let a = c.args in
-    let good = c.well_formed in
-    let put_bytes4 = c.put_bytes-p in
-    let write_part = c.write_part-q in
-    paths.segment_is a.text.now a.segment _ c.in-Named.is
-    (rw (paths.seg_bytes _)
-    (paths.three (omega (arith, good.0.0)) put_bytes4.ensures write_part.ensures c.put_bytes-in-Named.ensures))
+    paths.segment_is a.text.now a.segment _ c.in-Named.is (rw (paths.seg_bytes _) c.write_line.ensures)
