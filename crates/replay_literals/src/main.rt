@@ -10,36 +10,33 @@ use literal::check::{LiteralError, check_literal, check_quoted};
 use literal::requote::{Place, next_quoted};
 use std::io::{self, Read};
 
-fn letter(v: Result<(), LiteralError>) -> u8 {
+// Stays: `Result` and `LiteralError` are types of other crates, so that no `Display` can be written here.
+fn verdict(v: Result<(), LiteralError>) -> &'static str {
     match v {
-        Ok(()) => b'v',
-        Err(LiteralError::Invalid) => b'i',
-        Err(LiteralError::OverLimit) => b'o',
+        Ok(()) => "v",
+        Err(LiteralError::Invalid) => "i",
+        Err(LiteralError::OverLimit) => "o",
     }
-}
-
-fn write_byte(rt: &impl Print, b: u8) -> io::Result<()> {
-    rt.write_all(&[b])
 }
 
 fn write_rewritten(rt: &impl Print, inner: &[u8]) -> io::Result<()> {
     let mut place = Place::Opening;
     while let Some((b, behind)) = next_quoted(inner, place) {
-        write_byte(rt, b)?;
+        rt.write_all(&[b])?;
         place = behind;
     }
     Ok(())
 }
 
 fn answer(rt: &impl Print, kind: u8, text: &[u8]) -> io::Result<()> {
-    if kind == b'q' {
-        write_byte(rt, letter(check_quoted(text)))?;
-        write_byte(rt, b' ')?;
-        write_rewritten(rt, text)?;
-    } else {
-        write_byte(rt, letter(check_literal(text)))?;
+    match kind {
+        b'q' => {
+            print!(rt; "{} ", verdict(check_quoted(text)))?;
+            write_rewritten(rt, text)?;
+        }
+        _ => rt.print(verdict(check_literal(text)))?,
     }
-    write_byte(rt, b'\n')
+    rt.println("")
 }
 
 // The text of a record, which it reads into `text`.
