@@ -105,7 +105,12 @@ single_is a = let e = ap length (single_bytes a) in omega (arith, around (ascii 
 pair_is : (a b : Bytes) → block_bytes (pair a b) ≡ 7 + length (quoted a) + length (quoted b)
 pair_is a b =
     let e = ap length (pair_bytes a b) in
-    omega (arith, around (ascii "[as ") (quoted a) (ascii " " ++ (quoted b ++ ascii "]\n")), around (ascii " ") (quoted b) (ascii "]\n"))
+    omega (
+      arith,
+      length-append (ascii "[as " ++ (quoted a ++ ascii " ")) (ascii "" ++ (quoted b ++ ascii "]\n")),
+      around (ascii "[as ") (quoted a) (ascii " "),
+      around (ascii "") (quoted b) (ascii "]\n"),
+    )
 
 -- ---- the parts of an expression
 
