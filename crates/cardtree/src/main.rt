@@ -8,23 +8,20 @@ use std::io;
 use support::bytes::part;
 use template::compile::compile2;
 
-fn show_refusal(rt: &impl Print, number: usize, place: usize) -> io::Result<()> {
-    println!(rt; "refused {number} at {place}")
-}
-
 // `compile2` of a card's parts, with 65,536 bytes lent.
 fn show_answer(rt: &impl Print, text: &[u8], words: &[u32], options: u32) -> io::Result<()> {
     let mut out = [0u8; 65536];
     match compile2(text, words, options, &mut out) {
         Ok(n) => rt.write_all(part(&out, 0, n)),
-        Err(r) => show_refusal(rt, u32::from(r.reason) as usize, r.place),
+        Err(r) => println!(rt; "refused {} at {}", u32::from(r.reason), r.place),
     }
 }
 
+// Stays: the lines of `replay_cards`. `Print` says nothing of what it writes, so that a public function in `card` could promise nothing.
 fn show_card(rt: &impl Print, input: &[u8]) -> io::Result<()> {
     let mut words = [0u32; Card::WORDS];
     let Some(card) = read_card(input, &mut words) else {
-        return show_refusal(rt, 15, 0);
+        return println!(rt; "refused 15 at 0");
     };
     let text = part(input, card.text, input.len());
     show_answer(rt, text, &words[..card.words], card.options)

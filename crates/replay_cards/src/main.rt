@@ -8,9 +8,8 @@
 ghost use Rattle.std.specs.Prelude.{◌≤◌, length};
 
 use card::input::read_full;
-use card::number::read_digits;
 use card::read::{Card, read_card};
-use card::stored::line_at;
+use card::stored::Blocks;
 use std::io;
 use support::bytes::{part, same_bytes};
 use template::compile::compile2;
@@ -24,10 +23,6 @@ const SHORT: usize = 256;
 
 // The longest that is shown whole.
 const LONG: usize = 4096;
-
-fn show_refusal(rt: &impl Print, number: usize, place: usize) -> io::Result<()> {
-    println!(rt; "refused {number} at {place}")
-}
 
 // Whether all bytes are canaries.
 fn untouched(bytes: &[u8]) -> bool {
@@ -119,7 +114,7 @@ fn show_longer(rt: &impl Print, text: &[u8], words: &[u32], options: u32) -> io:
             }
             Ok(())
         }
-        Err(r) => show_refusal(rt, u32::from(r.reason) as usize, r.place),
+        Err(r) => println!(rt; "refused {} at {}", u32::from(r.reason), r.place),
     }
 }
 
@@ -131,7 +126,7 @@ fn show_answer(rt: &impl Print, text: &[u8], words: &[u32], options: u32) -> io:
             show_rooms(rt, text, words, options, part(&out, 0, n))
         }
         Err(r) => {
-            show_refusal(rt, u32::from(r.reason) as usize, r.place)?;
+            println!(rt; "refused {} at {}", u32::from(r.reason), r.place)?;
             if r.reason == Reason::ListingTooLong {
                 show_longer(rt, text, words, options)?;
             }
@@ -140,10 +135,11 @@ fn show_answer(rt: &impl Print, text: &[u8], words: &[u32], options: u32) -> io:
     }
 }
 
+// Stays: the lines of `cardtree`. `Print` says nothing of what it writes, so that a public function in `card` could promise nothing.
 fn show_card(rt: &impl Print, input: &[u8]) -> io::Result<()> {
     let mut words = [0u32; Card::WORDS];
     let Some(card) = read_card(input, &mut words) else {
-        return show_refusal(rt, 15, 0);
+        return println!(rt; "refused 15 at 0");
     };
     let text = part(input, card.text, input.len());
     show_answer(rt, text, &words[..card.words], card.options)
@@ -151,18 +147,9 @@ fn show_card(rt: &impl Print, input: &[u8]) -> io::Result<()> {
 
 // Each card, behind its number.
 fn replay(rt: &impl Print, input: &[u8]) -> io::Result<()> {
-    // Stays: a card ends where the line before it says, so that no iterator of std finds its end.
-    let mut at: usize = 0;
-    let mut number: usize = 0;
-    while at < input.len() {
-        let line = line_at(input, at);
-        let length = read_digits(line, 0);
-        let start = at + line.len() + 1;
-        let end = start + length.value as usize;
+    for (number, card) in Blocks::new(input).enumerate() {
         println!(rt; "card {number}")?;
-        show_card(rt, part(input, start, end))?;
-        number += 1;
-        at = end;
+        show_card(rt, card)?;
     }
     Ok(())
 }

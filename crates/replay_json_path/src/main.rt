@@ -84,13 +84,8 @@ fn show_at(rt: &impl Print, text: &[u8], words: &[u32], k: usize) -> io::Result<
     show_span(rt, escape_at(words, k), "none")?;
     rt.print(" skip ")?;
     show_next(rt, words, skip_to(words, s.end, k))?;
-    show_path(rt, text, words, s, after(words, k))?;
+    show_path(rt, text, words, s, k.saturating_add(1))?;
     rt.println("")
-}
-
-// The number after `k`, as far as there are spans.
-fn after(words: &[u32], k: usize) -> usize {
-    if k < span_count(words) { k + 1 } else { k }
 }
 
 // Every number up to two past the last span, and the largest of all.
