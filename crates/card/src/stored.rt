@@ -50,7 +50,7 @@ fn split_line(s: &[u8]) -> (&[u8], &[u8])
 // The records that are left, each a text and the line of its words.
 #[derive(Drop)]
 pub struct Records<'a> {
-    rest: &'a [u8],
+    pub rest: &'a [u8],
 }
 
 impl<'a> Records<'a> {
@@ -82,7 +82,7 @@ impl<'a> Iterator for Records<'a> {
 // The blocks that are left, each the bytes behind a line with their length.
 #[derive(Drop)]
 pub struct Blocks<'a> {
-    rest: &'a [u8],
+    pub rest: &'a [u8],
 }
 
 impl<'a> Blocks<'a> {
