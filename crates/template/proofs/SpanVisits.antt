@@ -34,7 +34,7 @@ use Rattle.template.specs.Element.{Good}
 use Rattle.template.specs.Numbers.{reason_number}
 use Rattle.template.specs.Asked.{KeptIs, NestsIs, TooManyIs, HelperDiffersIs, DecoratorDiffersIs}
 use Rattle.template.specs.TagRead.{tag_means, TagDone, TagReadIs}
-use Rattle.template.specs.Visit.{prev_of, Tells, StepIs, VisitIs}
+use Rattle.template.specs.Visit.{some_step, prev_of, Tells, StepIs, VisitIs}
 use Rattle.template.specs.Visiting.{SpanFits, Visited, Makes, KindIs, TagMakes, refusal_of, RefusalIs, AdvanceIs}
 use Rattle.template.specs.declared.tag.TagExpression.{TagExpression}
 use Rattle.template.specs.declared.refusal.Reason.{Reason}
@@ -246,3 +246,7 @@ module _ (text : Bytes) (words : List ℕ) (o : Options) (v : View) (at : ℕ) w
 
         pub kind_steps : {p : Step} → KindIs text words o v s gap here (Ok p) → Visits (Ok (Some p))
         kind_steps {p} k = record { means = λ st t. step_of p t (k.means st (visited t)) }
+
+        pub kind_visited : (r : Result Step Refusal) → KindIs text words o v s gap here r → Visits (some_step r)
+        kind_visited (Ok p) k = kind_steps k
+        kind_visited (Err f) k = kind_refused k

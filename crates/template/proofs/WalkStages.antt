@@ -1,12 +1,13 @@
 -- What a visit means for what the loop keeps: a step that a turn makes, or the answer. Assumes nothing.
 use Rattle.std.specs.Prelude as std
 use Prim.Native.Nat.{ℕ}
-use mathlib.Core.Path.{◌≡◌, sym, subst, ◌∙◌}
+use mathlib.Core.Path.{◌≡◌, refl, ap, sym, subst, ◌∙◌}
 use mathlib.Core.Bool.{Bool, true, false}
-use mathlib.Core.List.{List}
+use mathlib.Core.List.{List, []}
 use Rattle.std.specs.Prelude.{Option, Some, None, Result, Ok, Err}
 use Rattle.support.specs.Bytes.{Bytes}
-use Rattle.json_path.specs.Span.{span_count}
+use Rattle.json_path.specs.Span.{Span, span_count, spans_from}
+use Rattle.json_path.specs.Answers.{Walked}
 use Rattle.json_path.specs.declared.path.Name.{Name}
 use Rattle.listing.specs.Reading.{Elem}
 use Rattle.template.specs.State.{root, level, initial}
@@ -16,8 +17,8 @@ use Rattle.template.specs.Store.{element_at}
 use Rattle.template.specs.Links.{BlockNameIs}
 use Rattle.template.specs.Numbers.{reason_number}
 use Rattle.template.specs.Nests.{unfinished}
-use Rattle.template.specs.Visit.{HereIs, Tells}
-use Rattle.template.specs.Turn.{LookIs}
+use Rattle.template.specs.Visit.{HereIs, Tells, VisitIs}
+use Rattle.template.specs.Turn.{still_step, LookIs}
 use Rattle.template.specs.Finish.{unfinished_at, walk_listing}
 use Rattle.template.specs.declared.element.Element.{Element}
 use Rattle.template.specs.declared.frame.Frame.{Frame}
@@ -31,7 +32,7 @@ use Rattle.template.proofs.Turns.{Kept}
 use Rattle.template.proofs.Names.{tells}
 use Rattle.template.proofs.Loop.{walked, Held, Goes, goes}
 use Rattle.template.proofs.Finishing.{RootIs, Ended}
-use Rattle.template.proofs.WalkEnds.{end_open, refused_open, turned_away, list_ends, unfinished_is, too_early, whole, root_whole}
+use Rattle.template.proofs.WalkEnds.{end_open, refused_open, turned_away, list_ends, unfinished_is, too_early, whole, root_whole, looks_still, looks_on}
 
 -- what the walk tells a visit
 abbrev pub view_of : Marks → Frame → std.Option Name → ℕ → Here → View
@@ -81,3 +82,27 @@ module _ {text : Bytes} {words : List ℕ} {o : Options} where
             here = subst (λ (i : ℕ). HereIs text h i) (sym held.marks.previous) held.here;
             answer = whole text words o m held.now root_at.0 (look_ends e) (sym (same e) ∙ sym a ∙ b) root_at.1 held.marks.previous;
           }
+
+-- what a turn finds: a block that closes, a span, or the end of the list
+module _ {text : Bytes} {words : List ℕ} {o : Options} {n : ℕ} {st : List Element} {lv : List Frame} {x : Frame} {m : Marks} {h : Here} {depth len count : ℕ} {closing : Bool} {at : ℕ}
+    (held : Held text words o n st lv x m h depth len count closing at) {name : std.Option Name} (named : BlockNameIs (element_at st x.block) name) where
+  pub still_goes : {p : Step} → closing ≡ true → p ≡ still_step (view_of m x name count h) at → Goes text words o at closing p held.now
+  still_goes {p} c e = look_goes held named (looks_still text words o (view_of m x name count h) at closing (Ok (Some p)) c (ap (λ z. Ok (Some z)) e)) p refl
+
+  module _ (going : closing ≡ false) where
+    module _ {s : Span} (w : Walked words at s) where
+      pub visit_goes : {p : Step} → ((k : ℕ) → Walked words k s → VisitIs text words o (view_of m x name count h) k (Ok (Some p))) → Goes text words o at closing p held.now
+      visit_goes {p} v = look_goes held named (looks_on text words o (view_of m x name count h) at closing (Ok (Some p)) going (v at w)) p refl
+
+      pub visit_refused : {f : Refusal} → ((k : ℕ) → Walked words k s → VisitIs text words o (view_of m x name count h) k (Err f)) → walk_listing text words o ≡ refused (reason_number f.reason) f.place
+      visit_refused {f} v = look_refused held named (looks_on text words o (view_of m x name count h) at closing (Err f) going (v at w)) f refl
+
+    module _ (none : spans_from words at ≡ []) where
+      ends : LookIs text words o (view_of m x name count h) at closing (Ok None)
+      ends = looks_on text words o (view_of m x name count h) at closing (Ok None) going (record { means = λ s t. none })
+
+      pub list_early : {u : Bool} → u ≡ unfinished_at text m depth → u ≡ true → walk_listing text words o ≡ refused 7 (span_count words)
+      list_early {u} a b = look_early held named ends u refl a b
+
+      pub list_ended : Good text words → {u : Bool} → u ≡ unfinished_at text m depth → u ≡ false → Ended text words o st x len m h
+      list_ended good a b = look_ended held named ends good refl a b

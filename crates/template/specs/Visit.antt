@@ -111,6 +111,11 @@ pub record Tells (text : Bytes) (v : View) (st : State) : Type 0 where
 
 -- ---- steps
 
+-- the answer about a span, as one about what may be the end of the list
+abbrev pub some_step : Result Step Refusal → Result (rattle.Option Step) Refusal
+some_step (Ok p) = Ok (Some p)
+some_step (Err f) = Err f
+
 module _ (text : Bytes) (words : List ℕ) where
   -- an element that was just made joins a body
   abbrev pub leaf_means : Element → Elem

@@ -11,7 +11,7 @@ use crate::frame::Marks;
 use crate::lines::find_lines;
 use crate::reason::checks;
 use crate::refusal::{Reason, Refusal};
-use crate::visit::Options;
+use crate::visit::{Input, Options};
 use crate::walk::walk;
 use json_path::span::span_count;
 
@@ -38,7 +38,7 @@ impl Marks {
 fn compile_in<const LINES: usize, const STORE: usize, const ROOM: usize>(
     text: &[u8],
     words: &[u32],
-    o: Options,
+    options: Options,
     out: &mut [u8],
 ) -> Result<usize, Refusal>
     requires good { Good text.now words.now }
@@ -46,13 +46,20 @@ fn compile_in<const LINES: usize, const STORE: usize, const ROOM: usize>(
     requires few { 2 * span_count words.now < STORE }
     requires size { (1 < STORE) × (STORE ≤ 8193) }
     requires lent { (LINES ≤ 16385) × (ROOM ≤ 131072) }
-    ensures { AnswerIs (walk_answer text.now words.now o (length out.old)) out.old out.new result }
+    ensures { AnswerIs (walk_answer text.now words.now options (length out.old)) out.old out.new result }
 {
     let mut starts = [false; LINES];
     let mut ends = [false; LINES];
     find_lines(text, &mut starts, &mut ends);
+    let input = Input {
+        text,
+        words,
+        options,
+        starts: &starts,
+        ends: &ends,
+    };
     let mut buffer = [0u8; ROOM];
-    let n = walk::<STORE>(text, &starts, &ends, words, o, &mut buffer)?;
+    let n = walk::<STORE>(&input, &mut buffer)?;
     if out.len() < n {
         return Err(Refusal {
             reason: Reason::ListingTooLong,
@@ -60,7 +67,7 @@ fn compile_in<const LINES: usize, const STORE: usize, const ROOM: usize>(
         });
     }
     if ROOM < n {
-        return walk::<STORE>(text, &starts, &ends, words, o, out);
+        return walk::<STORE>(&input, out);
     }
     out[..n].copy_from_slice(&buffer[..n]);
     Ok(n)

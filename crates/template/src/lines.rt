@@ -5,12 +5,15 @@ ghost use Rattle.template.specs.Lines.{line_across, StartsAre, EndsAre, LinesAre
 
 use support::str::{newline_matcher, whitespace_matcher};
 
-// Whether there is an empty line on one side of `c`; `line`: on its other side. Not by branches, which would be
-// mispredicted at each blank between words.
+// Whether there is an empty line on one side of `c`; `line`: on its other side.
 fn line_across(c: u8, line: bool) -> bool
     ensures { result ≡ line_across c line }
 {
-    (whitespace_matcher(c) & line) | newline_matcher(c)
+    if whitespace_matcher(c) {
+        line
+    } else {
+        newline_matcher(c)
+    }
 }
 
 // None starts at the end of the text; before it, by the byte that follows.

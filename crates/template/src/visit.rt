@@ -3,12 +3,14 @@ ghost use Rattle.std.specs.Prelude.{◌≡◌, List, Bool, true, false, ◌&&◌
 ghost use Rattle.support.specs.Bytes.{Bytes, if, is_empty};
 ghost use Rattle.support.specs.TextRules.{starts_with_empty_line};
 ghost use Rattle.json_path.specs.Span.{span_count};
+ghost use Rattle.json_path.specs.Answers.{Walked};
 ghost use Rattle.template.specs.Kind.{plain, skipped, kind_of};
 ghost use Rattle.template.specs.Checks.{max_spans};
 ghost use Rattle.template.specs.Step.{after_gap, standalone};
 ghost use Rattle.template.specs.Element.{Good, new_element};
-ghost use Rattle.template.specs.Visit.{stage_means, VisitIs};
-ghost use Rattle.template.specs.Lines.{StartsAre, LinesAre};
+ghost use Rattle.template.specs.Visit.{stage_means, some_step, VisitIs};
+ghost use Rattle.template.specs.Lines.{LinesAre};
+ghost use Rattle.template.specs.Turn.{still_step};
 ghost use Rattle.template.specs.Visiting.{SpanFits, KindIs, TagMakes, AdvanceIs, front_of, raw_front, gap_element, text_element, text_step, trim_of, helper_of, decorator_of, CutIs, LineIs, StageIs, ElementIs, BeginIs, ActIs, IndentIs, RefusalIs};
 
 use crate::element::{
@@ -22,7 +24,7 @@ use crate::reason::{
 use crate::refusal::{Reason, Refusal};
 use crate::tag::{TagExpression, read_tag};
 use json_path::path::Name;
-use json_path::span::{Span, next_span, span_count};
+use json_path::span::{Span, span_count};
 use support::bytes::part;
 use support::position::{Place, line_col};
 
@@ -30,6 +32,19 @@ use support::position::{Place, line_col};
 pub struct Options {
     pub prevent_indent: bool,
     pub is_partial: bool,
+}
+
+// The input of a call that 1 to 5 have found good: a text, its span words and the options; and the tables of
+// the empty lines that start and end at each offset of the text.
+#[derive(Clone, Copy)]
+pub struct Input<'a> {
+    pub text: &'a [u8],
+    pub words: &'a [u32],
+    pub options: Options,
+    pub starts: &'a [bool],
+    pub ends: &'a [bool],
+    ghost good: { Good text.now words.now },
+    ghost lines: { LinesAre text.now starts.now ends.now },
 }
 
 // The place of the offset `at`.
@@ -79,6 +94,22 @@ pub struct Step {
     pub marks: Marks,
     pub here: Here,
     pub next: usize,
+}
+
+impl Step {
+    // Nothing happens, and the next span is that at `at`.
+    pub(crate) fn still(v: View, at: usize) -> Step
+        ensures { result ≡ still_step v at }
+    {
+        Step {
+            gap: None,
+            back: Back::Kept,
+            act: Act::Skip,
+            marks: v.marks,
+            here: v.here,
+            next: at,
+        }
+    }
 }
 
 // The place of a later offset.
@@ -226,68 +257,52 @@ fn text_step(v: View, s: Span, start: usize, here: Here, stage: Stage, line: boo
     }
 }
 
-// The text of tag 2 begins at the previous end.
-fn raw_string(text: &[u8], words: &[u32], v: View, s: Span, here: Here) -> Result<Step, Refusal>
-    requires tag_is { s.tag ≡ 2 }
+// The text of tag 2 begins at the previous end. That of tag 3 is its own span; a raw body takes nothing more.
+fn raw_string(input: &Input, v: View, s: Span, here: Here) -> Result<Step, Refusal>
+    requires first_tag { 2 ≤ s.tag }
+    requires last_tag { s.tag ≤ 3 }
     requires counted { s.number < max_spans }
-    ensures { (o : Options) (gap : Bool) → KindIs text.now words.now o v s gap here result }
+    ensures { (gap : Bool) → KindIs input.now.text.now input.now.words.now input.now.options v s gap here result }
 {
-    let start = v.marks.prev_end();
-    if bad_escapes(text, words, start, s.end, s.number + 1) {
+    let m = v.marks;
+    let is_block = s.tag == 3;
+    let start = if is_block { s.start } else { m.prev_end() };
+    if bad_escapes(input.text, input.words, start, s.end, s.number + 1) {
         return Err(Refusal {
             reason: Reason::BadEscape,
             place: s.number,
         });
     }
-    Ok(text_step(v, s, start, here, Stage::Filling, false))
-}
-
-// That of tag 3 is its own span; a raw body takes nothing more.
-fn raw_block_text(text: &[u8], words: &[u32], v: View, s: Span, here: Here) -> Result<Step, Refusal>
-    requires tag_is { s.tag ≡ 3 }
-    requires counted { s.number < max_spans }
-    ensures { (o : Options) (gap : Bool) → KindIs text.now words.now o v s gap here result }
-{
-    if bad_escapes(text, words, s.start, s.end, s.number + 1) {
-        return Err(Refusal {
-            reason: Reason::BadEscape,
-            place: s.number,
-        });
+    if is_block {
+        Ok(text_step(v, s, start, here, Stage::Full, m.trim_line_required))
+    } else {
+        Ok(text_step(v, s, start, here, Stage::Filling, false))
     }
-    Ok(text_step(v, s, s.start, here, Stage::Full, v.marks.trim_line_required))
 }
 
 // An empty line starts after the tag, or nothing at all follows and it is no partial.
-fn with_trailing_newline(text: &[u8], starts: &[bool], end: usize, is_partial: bool) -> bool
-    requires line_starts { StartsAre text.now starts.now }
-    requires inside { end ≤ length text.now }
-    ensures { result ≡ (starts_with_empty_line (drop end text.now) || (is_empty (drop end text.now) && not is_partial)) }
+fn with_trailing_newline(input: &Input, end: usize) -> bool
+    requires { end ≤ length input.now.text.now }
+    ensures { result ≡ (starts_with_empty_line (drop end input.now.text.now) || (is_empty (drop end input.now.text.now) && not input.now.options.is_partial)) }
 {
-    if starts[end] {
+    if input.starts[end] {
         return true;
     }
-    if end == text.len() {
-        return !is_partial;
+    if end == input.text.len() {
+        return !input.options.is_partial;
     }
     false
 }
 
 // And an empty line ends before it.
-fn process_standalone_statement(
-    text: &[u8],
-    starts: &[bool],
-    ends: &[bool],
-    s: Span,
-    is_partial: bool,
-) -> bool
-    requires lines { LinesAre text.now starts.now ends.now }
-    requires fits { SpanFits text.now s }
-    ensures { result ≡ standalone text.now is_partial s }
+fn process_standalone_statement(input: &Input, s: Span) -> bool
+    requires { SpanFits input.now.text.now s }
+    ensures { result ≡ standalone input.now.text.now input.now.options.is_partial s }
 {
-    if !with_trailing_newline(text, starts, s.end, is_partial) {
+    if !with_trailing_newline(input, s.end) {
         return false;
     }
-    ends[s.start]
+    input.ends[s.start]
 }
 
 // How the last text is trimmed: by a left tilde, or by the standalone test.
@@ -316,29 +331,18 @@ fn comment_of(s: Span, place: Place) -> Element
     )
 }
 
-fn comment(
-    text: &[u8],
-    starts: &[bool],
-    ends: &[bool],
-    words: &[u32],
-    o: Options,
-    v: View,
-    s: Span,
-    gap: bool,
-    here: Here,
-) -> Step
+fn comment(input: &Input, v: View, s: Span, gap: bool, here: Here) -> Step
     requires first_tag { 19 ≤ s.tag }
     requires last_tag { s.tag ≤ 20 }
     requires counted { s.number < max_spans }
-    requires lines { LinesAre text.now starts.now ends.now }
-    requires fits { SpanFits text.now s }
-    ensures { KindIs text.now words.now o v s gap here (Ok result) }
+    requires fits { SpanFits input.now.text.now s }
+    ensures { KindIs input.now.text.now input.now.words.now input.now.options v s gap here (Ok result) }
 {
     let m = v.marks;
-    let standalone = process_standalone_statement(text, starts, ends, s, o.is_partial);
+    let standalone = process_standalone_statement(input, s);
     let e = comment_of(s, here.place);
     Step {
-        gap: gap_of(words, m, s, here.place, gap),
+        gap: gap_of(input.words, m, s, here.place, gap),
         back: trim_of(false, standalone),
         act: Act::Add(e, Added::Leaf),
         marks: Marks {
@@ -462,33 +466,21 @@ fn line_mark(tag: u32, standalone: bool, line: bool) -> bool
     }
 }
 
-fn step_of(
-    text: &[u8],
-    starts: &[bool],
-    ends: &[bool],
-    words: &[u32],
-    o: Options,
-    v: View,
-    s: Span,
-    x: TagExpression,
-    gap: bool,
-    here: Here,
-) -> Step
+fn step_of(input: &Input, v: View, s: Span, x: TagExpression, gap: bool, here: Here) -> Step
     requires first_tag { 5 ≤ s.tag }
     requires last_tag { s.tag ≤ 18 }
-    requires lines { LinesAre text.now starts.now ends.now }
-    requires fits { SpanFits text.now s }
-    ensures { TagMakes text.now words.now o v s x gap here result }
+    requires fits { SpanFits input.now.text.now s }
+    ensures { TagMakes input.now.text.now input.now.words.now input.now.options v s x gap here result }
 {
     let m = v.marks;
-    let standalone = process_standalone_statement(text, starts, ends, s, o.is_partial);
+    let standalone = process_standalone_statement(input, s);
     let line = but_not(m.trim_line_required, gap);
     let mark = but_not(standalone, x.omit_pre_ws);
-    let indent = is_indented(s.tag, o.prevent_indent, x.omit_pre_ws);
-    let cut = is_cut(s.tag, standalone, o.prevent_indent);
+    let indent = is_indented(s.tag, input.options.prevent_indent, x.omit_pre_ws);
+    let cut = is_cut(s.tag, standalone, input.options.prevent_indent);
     let e = Element::named(element_of(s, x, mark, indent), x.name, here.place);
     Step {
-        gap: gap_of(words, m, s, here.place, gap),
+        gap: gap_of(input.words, m, s, here.place, gap),
         back: trim_of(x.omit_pre_ws, cut),
         act: act_of(s.tag, e),
         marks: Marks {
@@ -525,89 +517,53 @@ fn refusal_of(
 }
 
 // 8, 9 and 12 as met, open blocks last; 10, 11.
-fn tagged(
-    text: &[u8],
-    starts: &[bool],
-    ends: &[bool],
-    words: &[u32],
-    o: Options,
-    v: View,
-    s: Span,
-    gap: bool,
-    here: Here,
-) -> Result<Step, Refusal>
+fn tagged(input: &Input, v: View, s: Span, gap: bool, here: Here) -> Result<Step, Refusal>
     requires first_tag { 5 ≤ s.tag }
     requires last_tag { s.tag ≤ 18 }
-    requires counted { s.number < span_count words.now }
-    requires lines { LinesAre text.now starts.now ends.now }
-    requires fits { SpanFits text.now s }
-    ensures { KindIs text.now words.now o v s gap here result }
+    requires counted { s.number < span_count input.now.words.now }
+    requires fits { SpanFits input.now.text.now s }
+    ensures { KindIs input.now.text.now input.now.words.now input.now.options v s gap here result }
 {
-    match read_tag(text, words, s) {
+    match read_tag(input.text, input.words, s) {
         Err(f) => Err(Refusal {
             reason: Reason::from(f),
-            place: fault_place(span_count(words), s, f),
+            place: fault_place(span_count(input.words), s, f),
         }),
         Ok(x) => {
             let end = x.name.as_name();
-            if let Some(reason) = refusal_of(text, s.tag, v.count, v.name, end) {
+            if let Some(reason) = refusal_of(input.text, s.tag, v.count, v.name, end) {
                 return Err(Refusal {
                     reason,
                     place: s.number,
                 });
             }
-            Ok(step_of(text, starts, ends, words, o, v, s, x, gap, here))
+            Ok(step_of(input, v, s, x, gap, here))
         }
     }
 }
 
 // What is decided of a span behind 6 and 7, by its tag.
 // Stays: a tag is a number, since document 01 has one match over the tag number, with ranges.
-fn visit_kind(
-    text: &[u8],
-    starts: &[bool],
-    ends: &[bool],
-    words: &[u32],
-    o: Options,
-    v: View,
-    s: Span,
-    gap: bool,
-    here: Here,
-) -> Result<Step, Refusal>
-    requires counted { s.number < span_count words.now }
-    requires count_fits { span_count words.now ≤ max_spans }
+fn visit_kind(input: &Input, v: View, s: Span, gap: bool, here: Here) -> Result<Step, Refusal>
+    requires counted { s.number < span_count input.now.words.now }
     requires no_escape { (s.tag ≡ 4 → ⊥) }
-    requires lines { LinesAre text.now starts.now ends.now }
-    requires fits { SpanFits text.now s }
-    ensures { KindIs text.now words.now o v s gap here result }
+    requires fits { SpanFits input.now.text.now s }
+    ensures { KindIs input.now.text.now input.now.words.now input.now.options v s gap here result }
 {
     match s.tag {
         1 => Ok(template(v, s)),
-        2 => raw_string(text, words, v, s, here),
-        3 => raw_block_text(text, words, v, s, here),
-        5..=18 => tagged(text, starts, ends, words, o, v, s, gap, here),
-        19..=20 => Ok(comment(text, starts, ends, words, o, v, s, gap, here)),
-        _ => Ok(skipped(words, v, s, gap, here)),
+        2..=3 => raw_string(input, v, s, here),
+        5..=18 => tagged(input, v, s, gap, here),
+        19..=20 => Ok(comment(input, v, s, gap, here)),
+        _ => Ok(skipped(input.words, v, s, gap, here)),
     }
 }
 
-// The walked span at the cursor: 6, 7, and then by its tag; none at the end of the list.
-pub(crate) fn visit_span(
-    text: &[u8],
-    starts: &[bool],
-    ends: &[bool],
-    words: &[u32],
-    o: Options,
-    v: View,
-    at: usize,
-) -> Result<Option<Step>, Refusal>
-    requires good { Good text.now words.now }
-    requires lines { LinesAre text.now starts.now ends.now }
-    ensures { VisitIs text.now words.now o v at result }
+// A walked span: 6, 7, and then by its tag.
+pub(crate) fn visit_span(input: &Input, v: View, s: Span) -> Result<Step, Refusal>
+    requires { (at : ℕ) × Walked input.now.words.now at s }
+    ensures { (at : ℕ) → Walked input.now.words.now at s → VisitIs input.now.text.now input.now.words.now input.now.options v at (some_step result) }
 {
-    let Some(s) = next_span(words, at) else {
-        return Ok(None);
-    };
     let m = v.marks;
     if s.start < m.prev_end() {
         return Err(Refusal {
@@ -622,7 +578,6 @@ pub(crate) fn visit_span(
             place: s.number,
         });
     }
-    let here = advance(text, v.here, s.start);
-    let step = visit_kind(text, starts, ends, words, o, v, s, gap, here)?;
-    Ok(Some(step))
+    let here = advance(input.text, v.here, s.start);
+    visit_kind(input, v, s, gap, here)
 }

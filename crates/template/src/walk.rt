@@ -1,9 +1,6 @@
 // The walk: it holds the store.
 ghost use Rattle.std.specs.Prelude.{◌≡◌, ◌*◌, ◌≤◌, ◌<◌};
 ghost use Rattle.json_path.specs.Span.{span_count};
-ghost use Rattle.template.specs.Element.{Good};
-ghost use Rattle.template.specs.Lines.{LinesAre};
-ghost use Rattle.template.specs.Turn.{LookIs};
 ghost use Rattle.template.specs.Finish.{unfinished_at, RestIs, walk_listing, BufferedIs};
 
 use crate::element::{Back, Element, Front, RawString, TemplateElement};
@@ -12,39 +9,10 @@ use crate::reason::is_filling;
 use crate::refusal::{Reason, Refusal};
 use crate::tree::write_tree;
 use crate::turn::{Standing, join, take_gap, take_turn};
-use crate::visit::{Act, Here, Options, Step, View, visit_span};
-use json_path::span::span_count;
+use crate::visit::{Here, Input, Step, View, visit_span};
+use json_path::span::{next_span, span_count};
 use support::bytes::part;
 use support::position::line_col;
-
-// A turn's visit; while a block closes, nothing is visited.
-fn look(
-    text: &[u8],
-    starts: &[bool],
-    ends: &[bool],
-    words: &[u32],
-    o: Options,
-    v: View,
-    at: usize,
-    closing: bool,
-) -> Result<Option<Step>, Refusal>
-    requires good { Good text.now words.now }
-    requires lines { LinesAre text.now starts.now ends.now }
-    ensures { LookIs text.now words.now o v at closing result }
-{
-    if closing {
-        Ok(Some(Step {
-            gap: None,
-            back: Back::Kept,
-            act: Act::Skip,
-            marks: v.marks,
-            here: v.here,
-            next: at,
-        }))
-    } else {
-        visit_span(text, starts, ends, words, o, v, at)
-    }
-}
 
 // 7 at the end of the list.
 fn unfinished(text: &[u8], m: Marks, depth: usize) -> bool
@@ -77,19 +45,10 @@ fn rest_of(text: &[u8], words: &[u32], m: Marks, h: Here) -> Option<Element>
 // Each turn visits a span, or closes a block. At the end of the list the text that is left joins the root's
 // body, and the tree is listed. `N` is how many elements the store has: to fill a large one takes longer than
 // the work on a small card.
-pub(crate) fn walk<const N: usize>(
-    text: &[u8],
-    starts: &[bool],
-    ends: &[bool],
-    words: &[u32],
-    o: Options,
-    out: &mut [u8],
-) -> Result<usize, Refusal>
-    requires good { Good text.now words.now }
-    requires lines { LinesAre text.now starts.now ends.now }
-    requires few { 2 * span_count words.now < N }
+pub(crate) fn walk<const N: usize>(input: &Input, out: &mut [u8]) -> Result<usize, Refusal>
+    requires few { 2 * span_count input.now.words.now < N }
     requires size { (1 < N) × (N ≤ 8193) }
-    ensures { BufferedIs (walk_listing text.now words.now o) out.old out.new result }
+    ensures { BufferedIs (walk_listing input.now.text.now input.now.words.now input.now.options) out.old out.new result }
 {
     let mut elements = [Element::EMPTY; N];
     let mut levels = [Frame::EMPTY; Frame::LIMIT];
@@ -103,20 +62,25 @@ pub(crate) fn walk<const N: usize>(
             count: b.count,
             here: b.here,
         };
-        match look(text, starts, ends, words, o, v, b.at, b.closing)? {
-            None => break,
-            Some(s) => b = take_turn(&mut elements, &mut levels, b, s),
-        }
+        let step = if b.closing {
+            Step::still(v, b.at)
+        } else {
+            let Some(s) = next_span(input.words, b.at) else {
+                break;
+            };
+            visit_span(input, v, s)?
+        };
+        b = take_turn(&mut elements, &mut levels, b, step);
     }
-    if unfinished(text, b.marks, b.depth) {
+    if unfinished(input.text, b.marks, b.depth) {
         return Err(Refusal {
             reason: Reason::BadNesting,
-            place: span_count(words),
+            place: span_count(input.words),
         });
     }
-    let rest = rest_of(text, words, b.marks, b.here);
+    let rest = rest_of(input.text, input.words, b.marks, b.here);
     let g = take_gap(rest, b.len);
     elements[b.len] = g.made;
     let top = join(&mut elements, b.top, g.join);
-    Ok(write_tree(out, text, words, &elements, top.first))
+    Ok(write_tree(out, input.text, input.words, &elements, top.first))
 }

@@ -16,4 +16,4 @@ returns c =
     let process_standalone_statement = c.process_standalone_statement-standalone in
     let comment_of = c.comment_of-e in
     let trim_of = c.trim_of in
-    laws.comment_step_lem a.text.now a.words.now a.o a.v a.s a.here c.stage_after_gap.result a.gap gap_of.ensures c.stage_after_gap.ensures refl process_standalone_statement.ensures comment_of.result (eqb a.s.tag 19) trim_of.ensures c.requires.first_tag c.requires.last_tag refl comment_of.ensures
+    laws.comment_step_lem a.input.now.text.now a.input.now.words.now a.input.now.options a.v a.s a.here c.stage_after_gap.result a.gap gap_of.ensures c.stage_after_gap.ensures refl process_standalone_statement.ensures comment_of.result (eqb a.s.tag 19) trim_of.ensures c.requires.first_tag c.requires.last_tag refl comment_of.ensures

@@ -1,21 +1,31 @@
--- 13, or the step of a text that VisitLaws has. Assumes nothing.
+-- 13, or the step of a text or of a raw body that VisitLaws has, by the tag. Assumes nothing.
 use native.Mathlib.Omega.{arith}
 use mathlib.Core.Path.{sym, ◌∙◌}
 use Rattle.template.proofs.VisitLaws as laws
 use Rattle.template.proofs.visit.raw_string.Goals as goal
-
-pub overflow_add-s : goal.overflow_add-s
-overflow_add-s c =
-    omega (arith, c.requires.counted)
+use Rattle.template.proofs.visit.raw_string.Goals.{then-is_block, else-is_block}
 
 pub returns-then-bad_escapes : goal.returns-then-bad_escapes
 returns-then-bad_escapes c =
     let a = c.args in
-    λ o gap. laws.text_bad a.text.now a.words.now o a.v a.s a.here {gap = gap} c.prev_end-start.result c.requires.tag_is c.prev_end-start.ensures
-    (sym c.bad_escapes.ensures ∙ c.if-bad_escapes.true)
+    let bad = sym c.bad_escapes.ensures ∙ c.if-bad_escapes.true in
+    elim c.if-is_block.branch [
+      | then-is_block w ↦ λ gap. laws.raw_bad a.input.now.text.now a.input.now.words.now a.input.now.options a.v a.s a.here {gap = gap} c.if-is_block.start (omega (arith, w.if-is_block)) w.start-is bad
+      | else-is_block w ↦ λ gap. laws.text_bad a.input.now.text.now a.input.now.words.now a.input.now.options a.v a.s a.here {gap = gap} c.if-is_block.start (omega (arith, w.if-is_block, c.requires.first_tag, c.requires.last_tag)) (w.start-is ∙ w.prev_end-start.ensures) bad
+    ]
 
-pub returns : goal.returns
-returns c =
+pub returns-then-is_block-2 : goal.returns-then-is_block-2
+returns-then-is_block-2 c =
     let a = c.args in
-    λ o gap. rw c.text_step.ensures
-    (laws.text_step_lem a.text.now a.words.now o a.v a.s a.here c.prev_end-start.result {gap = gap} c.requires.tag_is c.prev_end-start.ensures (sym c.bad_escapes.ensures ∙ c.if-bad_escapes.false))
+    λ gap. rw c.text_step.ensures
+    (laws.raw_step a.input.now.text.now a.input.now.words.now a.input.now.options a.v a.s a.here c.if-is_block.start {gap = gap} (omega (arith, c.if-is_block-2.true))
+    (elim c.if-is_block.branch [ | then-is_block w ↦ w.start-is | else-is_block w ↦ absurd (omega (arith, w.if-is_block, c.if-is_block-2.true)) ])
+    (sym c.bad_escapes.ensures ∙ c.if-bad_escapes.false))
+
+pub returns-else-is_block-2 : goal.returns-else-is_block-2
+returns-else-is_block-2 c =
+    let a = c.args in
+    λ gap. rw c.text_step-else-is_block-2.ensures
+    (laws.text_step_lem a.input.now.text.now a.input.now.words.now a.input.now.options a.v a.s a.here c.if-is_block.start {gap = gap} (omega (arith, c.if-is_block-2.false, c.requires.first_tag, c.requires.last_tag))
+    (elim c.if-is_block.branch [ | then-is_block w ↦ absurd (omega (arith, w.if-is_block, c.if-is_block-2.false)) | else-is_block w ↦ w.start-is ∙ w.prev_end-start.ensures ])
+    (sym c.bad_escapes.ensures ∙ c.if-bad_escapes.false))

@@ -19,7 +19,7 @@ returns c =
     let element_of = c.element_of in
     let named = c.named-e in
     let act_of = c.act_of in
-    laws.tag_makes a.text.now a.words.now a.o a.v a.s a.here a.x (laws.gap_stage a.gap a.v.marks.stage) a.gap
+    laws.tag_makes a.input.now.text.now a.input.now.words.now a.input.now.options a.v a.s a.here a.x (laws.gap_stage a.gap a.v.marks.stage) a.gap
     gap_of.ensures (laws.gap_stage_lem a.gap a.v.marks.stage) but_not.ensures process_standalone_statement.ensures is_cut.ensures
     trim_of.ensures c.stage_of.ensures c.line_mark.ensures but_not2.ensures is_indented.ensures
     element_of.ensures named.ensures act_of.ensures

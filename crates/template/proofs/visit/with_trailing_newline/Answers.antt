@@ -4,19 +4,19 @@ use lib.ListN.{drop, length-drop}
 use Rattle.template.proofs.StepParts as laws
 use Rattle.template.proofs.visit.with_trailing_newline.Goals as goal
 
-pub returns-then-starts-end : goal.returns-then-starts-end
-returns-then-starts-end c =
+pub returns-then-input-end : goal.returns-then-input-end
+returns-then-input-end c =
     let a = c.args in
-    laws.trailing_line (drop a.end a.text.now) a.is_partial (c.requires.line_starts.cells a.end c.requires.inside) c.if-starts-end.true
+    laws.trailing_line (drop a.end a.input.now.text.now) a.input.now.options.is_partial (c.args.input.now.lines.starting.cells a.end c.requires) c.if-input-end.true
 
-pub returns-then-end-text : goal.returns-then-end-text
-returns-then-end-text c =
+pub returns-then-end-input : goal.returns-then-end-input
+returns-then-end-input c =
     let a = c.args in
-    laws.trailing_none (drop a.end a.text.now) a.is_partial (c.requires.line_starts.cells a.end c.requires.inside) c.if-starts-end.false
-    (omega (arith, length-drop a.end a.text.now, c.if-end-text.true))
+    laws.trailing_none (drop a.end a.input.now.text.now) a.input.now.options.is_partial (c.args.input.now.lines.starting.cells a.end c.requires) c.if-input-end.false
+    (omega (arith, length-drop a.end a.input.now.text.now, c.if-end-input.true))
 
 pub returns : goal.returns
 returns c =
     let a = c.args in
-    laws.trailing_more (drop a.end a.text.now) a.is_partial (c.requires.line_starts.cells a.end c.requires.inside) c.if-starts-end.false
-    (λ z. c.if-end-text.false (omega (arith, length-drop a.end a.text.now)))
+    laws.trailing_more (drop a.end a.input.now.text.now) a.input.now.options.is_partial (c.args.input.now.lines.starting.cells a.end c.requires) c.if-input-end.false
+    (λ z. c.if-end-input.false (omega (arith, length-drop a.end a.input.now.text.now)))

@@ -4,8 +4,8 @@ use Rattle.json_path.specs.Span.{span_count}
 use Rattle.template.proofs.Loop.{HeldAt}
 use Rattle.template.proofs.walk.walk.Given as goal
 
-abbrev pub invariant-loop-s : goal.invariant-loop-s
-invariant-loop-s g l = HeldAt l.text l.words l.o g.row.N l.elements l.levels l.b
+abbrev pub invariant-loop-b : goal.invariant-loop-b
+invariant-loop-b g l = HeldAt l.input.text.now l.input.words.now l.input.options g.row.N l.elements l.levels l.b
 
-abbrev pub decreases-loop-s : goal.decreases-loop-s
-decreases-loop-s g l = 2 * (span_count l.words - l.b.at) + l.b.count
+abbrev pub decreases-loop-b : goal.decreases-loop-b
+decreases-loop-b g l = 2 * (span_count l.input.words.now - l.b.at) + l.b.count
