@@ -9,3 +9,4 @@ mod CardLaws
 mod StoredLaws
 mod RecordLaws
 mod Inputs
+mod ReplayLaws

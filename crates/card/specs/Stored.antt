@@ -1,6 +1,6 @@
 -- The stored records of the programs that replay them: a line of text and a line of numbers, one byte between two; or a line with a length, and
 -- so many bytes.
-use Rattle.std.specs.Prelude.{ℕ, zero, suc, ◌-◌, ◌≤◌, ◌<◌, min, ◌≡◌, true, false, List, [], ◌∷◌, eqb, length, take, drop}
+use Rattle.std.specs.Prelude.{ℕ, zero, suc, ◌-◌, ◌≤◌, ◌<◌, min, ◌≡◌, true, false, List, [], ◌∷◌, eqb, length, take, drop, ◌⊎◌, Result, Ok, IsErr}
 use Rattle.support.specs.Bytes.{Bytes}
 use Rattle.card.specs.Number.{leading_digits, decimal, largest}
 use Rattle.card.specs.Answers.{Stores}
@@ -56,3 +56,18 @@ pub record BlockIs (s block rest : Bytes) : Type 0 where
   pub front : block ≡ take (first_number (first_line s)) (after_line s)
   pub behind : rest ≡ drop (first_number (first_line s)) (after_line s)
   pub less : length rest < length s
+
+-- at most k records, each a text and at most n words
+unfoldable pub records_by : ℕ → ℕ → Bytes → List (Bytes × List ℕ)
+records_by zero n s = []
+records_by (suc k) n [] = []
+records_by (suc k) n (b ∷ s) = (first_line (b ∷ s), take n (numbers (first_line (after_line (b ∷ s))))) ∷ records_by k n (after_line (after_line (b ∷ s)))
+
+-- the records of s, with at most n words each: there are no more records than bytes
+unfoldable pub records : ℕ → Bytes → List (Bytes × List ℕ)
+records n s = records_by (length s) n s
+
+-- r is what calls at the records answer, in order, up to the first error
+abbrev pub AnswersIn : {E : Type 0} → (Bytes → List ℕ → Result (Unit {0}) E → Type 0) → List (Bytes × List ℕ) → Result (Unit {0}) E → Type 0
+AnswersIn P [] r = r ≡ Ok tt
+AnswersIn P (x ∷ xs) r = (P x.0 x.1 r × IsErr r) ⊎ (P x.0 x.1 (Ok tt) × AnswersIn P xs r)

@@ -13,6 +13,7 @@ pub fn read_full<R: Read>(input: &mut R, buf: &mut [u8]) -> io::Result<usize>
     ensures err { OnErr result ((n : ℕ) × Consumes (R.remaining input.old) (R.remaining input.new) (take n buf.new)) }
 {
     let mut done = 0;
+    // Stays: `while`, since a turn goes on by as many bytes as a read gave, which nothing counts before.
     while done < buf.len() {
         let n = input.read(&mut buf[done..])?;
         if n == 0 {

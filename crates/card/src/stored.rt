@@ -2,9 +2,11 @@
 // with a length and so many bytes.
 ghost use Rattle.std.specs.Prelude.{◌≡◌, ◌+◌, length, drop, [], MatchOption};
 ghost use Rattle.std.specs.Iterator.{at_most};
-ghost use Rattle.card.specs.Stored.{first_line, after_line, FirstLineIs, WordsIs, RecordIs, BlockIs};
+ghost use Rattle.std.specs.Fn.{FnReturnsAtPair};
+ghost use Rattle.card.specs.Stored.{first_line, after_line, FirstLineIs, WordsIs, RecordIs, BlockIs, records, AnswersIn};
 
 use crate::number::read_digits;
+use std::io;
 use support::bytes::part;
 
 // The offset of the first LF from offset `at` on, or the end.
@@ -77,6 +79,23 @@ impl<'a> Iterator for Records<'a> {
         self.rest = rest;
         Some((text, words))
     }
+}
+
+// Gives each record's text and words to `show`, in order, up to the first error. The words are stored in
+// the memory that is lent, as far as there is room.
+pub fn replay<F: Fn(&[u8], &[u32]) -> io::Result<()>>(
+    input: &[u8],
+    words: &mut [u32],
+    show: F,
+) -> io::Result<()>
+    requires { F.IsAlwaysCallable show }
+    ensures { AnswersIn (FnReturnsAtPair F.Fn show) (records (length words.old) input.now) result }
+{
+    for (text, line) in Records::new(input) {
+        let n = read_words(line, words);
+        show(text, &words[..n])?;
+    }
+    Ok(())
 }
 
 // The blocks that are left, each the bytes behind a line with their length.

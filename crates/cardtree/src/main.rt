@@ -9,6 +9,9 @@ use support::bytes::part;
 use template::compile::compile2;
 
 // `compile2` of a card's parts, with 65,536 bytes lent.
+// Stays: `text`, `words` and `options` are three parameters, the options a number, as document 01's call has
+// them: a struct would be taken apart at once.
+// Stays: here and below arrays, since there is no heap: memory is fixed, and lent to what fills it.
 fn show_answer(rt: &impl Print, text: &[u8], words: &[u32], options: u32) -> io::Result<()> {
     let mut out = [0u8; 65536];
     match compile2(text, words, options, &mut out) {

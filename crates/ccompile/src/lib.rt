@@ -37,6 +37,7 @@ impl From<Result<usize, Refusal>> for Told {
 
 // Each slice comes as a pointer and a count of elements. A call that refuses leaves `out` as it was,
 // one that lists changes only what its listing fills.
+// Stays: the options are document 01's number, since C gives it.
 #[unsafe(no_mangle)]
 pub extern "C" fn havzeltis_compile2(
     text: &[u8],

@@ -1,6 +1,7 @@
 // Reading again, from the links of an expression: its parameters in order, its keys in byte order, a
 // repeated key with its last value, and into a subexpression. (Its block parameter is in its record.)
 // Literals were judged when they were first read.
+// Stays: `text` and `words` are two parameters, as in parse.rt.
 ghost use Rattle.std.specs.Prelude.{◌≡◌};
 ghost use Rattle.support.specs.Bytes.{precedes};
 ghost use Rattle.json_path.specs.Answers.{name_means};
@@ -42,10 +43,7 @@ fn stands_before(text: &[u8], a: Name, b: Name) -> bool
 fn is_above(text: &[u8], bound: Option<Name>, key: Name) -> bool
     ensures { result ≡ is_above (bound_means text.now bound) (name_means text.now key) }
 {
-    match bound {
-        Some(b) => stands_before(text, b, key),
-        None => true,
-    }
+    bound.is_none_or(|b| stands_before(text, b, key))
 }
 
 // The least key above the bound after one more part; of the same key the later.

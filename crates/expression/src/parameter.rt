@@ -7,6 +7,7 @@ use literal::check::LiteralError;
 
 // A literal's text: the kept part of the text, or, if `quoted`, what that inner text of single quotes
 // stands for.
+// Stays: `quoted` is a flag, since the part of the text is kept either way.
 #[derive(Clone, Copy)]
 pub struct Literal {
     pub kept: Name,
@@ -49,6 +50,7 @@ pub struct Hash {
 }
 
 // What the spans behind an expression's name give, one by one: tags 28, 32, 33, 35, any other.
+// Stays: `Skipped`, since a step is an `Option` already, and one inside it would be no plainer.
 #[derive(Clone, Copy)]
 pub enum Part {
     Param(Parameter),
@@ -68,6 +70,7 @@ pub struct Parts {
 }
 
 // Why an expression is turned away: 8, 8, 9 and 12.
+// Stays: an enum of its own, since it is what a `Result` holds beside a value, and `?` makes it of a `LiteralError`.
 #[derive(Clone, Copy, Debug, PartialEq, Eq)]
 pub enum Fault {
     Ended,
@@ -89,6 +92,7 @@ impl From<LiteralError> for Fault {
 
 // An expression: left tilde, name, its parts behind the name; of these the last block parameter and
 // whether the right tilde is set; and the number from which the spans after it are.
+// Stays: `omit_pre_ws` and `omit_pro_ws` are flags, as in the Rust crate, and no value goes with them.
 #[derive(Clone, Copy)]
 pub struct ExpressionSpec {
     pub omit_pre_ws: bool,

@@ -3,7 +3,8 @@
 // the cycle fewer spans remain, and in a subexpression less depth. Each answers what it read and the
 // number from which the spans after it are, or why not. `judged` says whether literals are judged:
 // they are where a tag is walked, and not again where what was read is read again.
-// Stays: `judged` is a flag and no closure, since the specification's readers take the same flag.
+// Stays: `judged` is a flag, since the specification's readers take a truth value: an enum would stand in
+// ten clauses behind an `is_judged`.
 // Stays: `text` and `words` are two parameters, since no fact ties them: any words go with any text.
 ghost use Rattle.std.specs.Prelude.{◌+◌, ◌<◌, length};
 ghost use Rattle.json_path.specs.Span.{spans_from};
@@ -22,9 +23,10 @@ pub fn parse_tilde(words: &[u32], at: usize) -> Result<(bool, usize), Fault>
 {
     let s = next_span(words, at).ok_or(Fault::Ended)?;
     if s.tag == 34 {
-        return Ok((true, s.number + 1));
+        Ok((true, s.number + 1))
+    } else {
+        Ok((false, at))
     }
-    Ok((false, at))
 }
 
 // A span as block parameter, and a second if it does not end past the limit, tag 33's end.

@@ -1,4 +1,5 @@
 // What a parameter begins with, and the values that hold no expression: its own span, paths, literals.
+// Stays: `text` and `words` are two parameters, as in parse.rt.
 ghost use Rattle.std.specs.Prelude.{◌≡◌};
 ghost use Rattle.json_path.specs.Span.{spans_from};
 ghost use Rattle.literal.specs.Means.{verdict_means};
@@ -17,9 +18,10 @@ pub(crate) fn own_span(words: &[u32], at: usize) -> Option<Span>
 {
     let s = next_span(words, at)?;
     if s.tag == 28 {
-        return next_span(words, s.number + 1);
+        next_span(words, s.number + 1)
+    } else {
+        Some(s)
     }
-    Some(s)
 }
 
 // Tag 26.

@@ -21,6 +21,7 @@ impl Name {
     }
 }
 
+// Stays: field by field, since a `Span` has a tag and a number besides.
 impl From<Span> for Name {
     ghost from_gives = { λ s n. n ≡ record { start = s.start; end = s.end } };
 
@@ -109,6 +110,7 @@ fn ups_and_name(text: &[u8], words: &[u32], path: Relative) -> Option<(usize, Na
 {
     let mut rest = path;
     let mut level = 0;
+    // Stays: `loop`, since a `while let` over the ups would read the segment behind them once more.
     loop {
         let (segment, after) = next_segment(text, words, rest)?;
         match segment {

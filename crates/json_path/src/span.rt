@@ -84,6 +84,8 @@ pub fn escape_at(words: &[u32], k: usize) -> Option<Span>
 
 // The number from which the spans are that follow those, from number `k` on, whose end is not
 // beyond the limit.
+// Stays: beside `last_escape` of template, which goes over the escapes. One function for both would ask of
+// a closure that each span it answers lies ahead and in the list, and is no shorter than the two.
 #[tactic(auto, using(crate::proofs::Spans::skipping))]
 pub fn skip_to(words: &[u32], limit: usize, k: usize) -> usize
     ensures { SkipIs words.now limit k result }

@@ -30,6 +30,8 @@ fn untouched(bytes: &[u8]) -> bool {
 }
 
 // The answer over the first `room` bytes.
+// Stays: `text`, `words` and `options` are three parameters, here and below, the options a number, as document
+// 01's call has them: a struct would be taken apart at each.
 fn answer_in(
     text: &[u8],
     words: &[u32],
@@ -46,6 +48,7 @@ fn answer_in(
 fn good_room(text: &[u8], words: &[u32], options: u32, listing: &[u8], room: usize) -> bool
     requires { room ≤ 264 }
 {
+    // Stays: here and below arrays, since there is no heap: memory is fixed, and lent to what fills it.
     let mut out = [CANARY; SHORT + 8];
     match answer_in(text, words, options, &mut out, room) {
         Ok(n) => {

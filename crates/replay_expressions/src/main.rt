@@ -4,7 +4,7 @@
 #![tactic(auto)]
 
 use card::input::read_full;
-use card::stored::{Records, read_words};
+use card::stored::replay;
 use expression::again::{enter, next_key, next_param};
 use expression::parameter::{
     BlockParam, ExpressionSpec, Fault, Hash, Parameter, Parts, Subexpression,
@@ -113,6 +113,8 @@ fn show_read<T: Copy, F: Fn(T) -> io::Result<()>>(
 }
 
 // The parameters in order.
+// Stays: `text` and `words` are two parameters, here and below, since the calls take them so: a struct would
+// be taken apart at each.
 // Stays: `loop`. A `while let` would lose the fault that the parameters may end with.
 fn show_params(rt: &impl Print, text: &[u8], words: &[u32], parts: Parts) -> io::Result<()> {
     let mut rest = parts;
@@ -232,21 +234,13 @@ fn show_record(rt: &impl Print, text: &[u8], words: &[u32]) -> io::Result<()> {
     show_at(rt, text, words, usize::MAX, usize::MAX)
 }
 
-fn replay_record(rt: &impl Print, text: &[u8], line: &[u8]) -> io::Result<()> {
-    let mut words = [0u32; 3 * Span::LIMIT];
-    let n = read_words(line, &mut words);
-    show_record(rt, text, &words[..n])
-}
-
-fn replay(rt: &impl Print, input: &[u8]) -> io::Result<()> {
-    for (text, words) in Records::new(input) {
-        replay_record(rt, text, words)?;
-    }
-    Ok(())
-}
-
+// Stays: the lines of `replay_json_path`, since what the two share is `read_full` and `replay`. The memory is
+// arrays that are lent, since there is no heap.
 fn main(rt: HostRuntime) -> io::Result<()> {
     let mut input = [0u8; LIMIT];
     let n = read_full(&mut rt.stdin(), &mut input)?;
-    replay(&rt, &input[..n])
+    let mut words = [0u32; 3 * Span::LIMIT];
+    replay(&input[..n], &mut words, |text, words| {
+        show_record(&rt, text, words)
+    })
 }

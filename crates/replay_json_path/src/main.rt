@@ -4,7 +4,7 @@
 #![tactic(auto)]
 
 use card::input::read_full;
-use card::stored::{Records, read_words};
+use card::stored::replay;
 use json_path::path::{Path, PathSeg, Relative, next_segment, parse_json_path};
 use json_path::span::{Span, escape_at, next_span, skip_to, span_at, span_count};
 use std::io;
@@ -37,6 +37,8 @@ fn show_segment(rt: &impl Print, text: &[u8], segment: PathSeg) -> io::Result<()
     }
 }
 
+// Stays: `text` and `words` are two parameters, here and below, since the calls take them so: a struct would
+// be taken apart at each.
 fn show_segments(rt: &impl Print, text: &[u8], words: &[u32], path: Relative) -> io::Result<()> {
     let mut rest = path;
     while let Some((segment, after)) = next_segment(text, words, rest) {
@@ -98,21 +100,13 @@ fn show_record(rt: &impl Print, text: &[u8], words: &[u32]) -> io::Result<()> {
     show_at(rt, text, words, usize::MAX)
 }
 
-fn replay_record(rt: &impl Print, text: &[u8], line: &[u8]) -> io::Result<()> {
-    let mut words = [0u32; 3 * Span::LIMIT];
-    let n = read_words(line, &mut words);
-    show_record(rt, text, &words[..n])
-}
-
-fn replay(rt: &impl Print, input: &[u8]) -> io::Result<()> {
-    for (text, words) in Records::new(input) {
-        replay_record(rt, text, words)?;
-    }
-    Ok(())
-}
-
+// Stays: the lines of `replay_expressions`, since what the two share is `read_full` and `replay`. The memory is
+// arrays that are lent, since there is no heap.
 fn main(rt: HostRuntime) -> io::Result<()> {
     let mut input = [0u8; LIMIT];
     let n = read_full(&mut rt.stdin(), &mut input)?;
-    replay(&rt, &input[..n])
+    let mut words = [0u32; 3 * Span::LIMIT];
+    replay(&input[..n], &mut words, |text, words| {
+        show_record(&rt, text, words)
+    })
 }

@@ -4,7 +4,7 @@
 #![tactic(auto)]
 
 use card::input::read_full;
-use card::stored::{Records, read_words};
+use card::stored::replay;
 use expression::parameter::Subexpression;
 use json_path::span::{Span, span_at, span_count};
 use listing::children::{write_decorator, write_helper};
@@ -19,9 +19,9 @@ const ROOM: usize = 8192;
 
 // One byte, quoted, on a line.
 fn show_byte(rt: &impl Print, b: u8) -> io::Result<()> {
-    let text = [b; 1];
+    // Stays: here and below arrays, since there is no heap: memory is fixed, and lent to what fills it.
     let mut out = [0u8; 8];
-    let n = write_quoted(&mut out, 0, &text);
+    let n = write_quoted(&mut out, 0, &[b]);
     rt.write_all(part(&out, 0, n))?;
     rt.println("")
 }
@@ -79,6 +79,8 @@ fn show_written<F: Fn(&mut [u8]) -> usize>(
 }
 
 // The expression behind a tag that has one, or behind a subexpression.
+// Stays: `text` and `words` are two parameters, here and below, since the calls take them so: a struct would
+// be taken apart at each.
 fn show_at(rt: &impl Print, text: &[u8], words: &[u32], k: usize) -> io::Result<()> {
     let s = span_at(words, k);
     if span_count(words) <= k {
@@ -111,23 +113,13 @@ fn show_record(rt: &impl Print, text: &[u8], words: &[u32]) -> io::Result<()> {
     Ok(())
 }
 
-fn replay_record(rt: &impl Print, text: &[u8], line: &[u8]) -> io::Result<()> {
-    let mut words = [0u32; 3 * Span::LIMIT];
-    let n = read_words(line, &mut words);
-    show_record(rt, text, &words[..n])
-}
-
-fn replay(rt: &impl Print, input: &[u8]) -> io::Result<()> {
-    for (text, words) in Records::new(input) {
-        replay_record(rt, text, words)?;
-    }
-    Ok(())
-}
-
 fn main(rt: HostRuntime) -> io::Result<()> {
     let mut input = [0u8; LIMIT];
     let n = read_full(&mut rt.stdin(), &mut input)?;
     show_bytes(&rt)?;
     show_numbers(&rt)?;
-    replay(&rt, &input[..n])
+    let mut words = [0u32; 3 * Span::LIMIT];
+    replay(&input[..n], &mut words, |text, words| {
+        show_record(&rt, text, words)
+    })
 }

@@ -28,6 +28,7 @@ fn write_rewritten(rt: &impl Print, inner: &[u8]) -> io::Result<()> {
     Ok(())
 }
 
+// Stays: `kind` is the record's letter, and this is the one match over it.
 fn answer(rt: &impl Print, kind: u8, text: &[u8]) -> io::Result<()> {
     match kind {
         b'q' => {
@@ -52,6 +53,7 @@ fn replay_text(
 
 // One record, if one is left.
 fn replay_one(rt: &impl Print, input: &mut impl Read) -> io::Result<bool> {
+    // Stays: arrays, since there is no heap: memory is fixed, and lent to what fills it.
     let mut head = [0u8; 2];
     let got = read_full(input, &mut head)?;
     if got < 2 {
