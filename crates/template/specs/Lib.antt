@@ -9,6 +9,7 @@ pub mod Refusal
 pub mod Step
 pub mod Walk
 pub mod Compile
+pub mod Deciding
 pub mod Order
 pub mod Reason
 pub mod Input

@@ -54,6 +54,12 @@ pub record SpanFits (text : Bytes) (s : Span) : Type 0 where
   pub starts : is_char_boundary text s.start ≡ true
   pub ends : is_char_boundary text s.end ≡ true
 
+-- a walked span of an input that passes 5
+pub record SpanStands (text : Bytes) (words : List ℕ) (s : Span) : Type 0 where
+  pub fits : SpanFits text s
+  pub counted : s.number < span_count words
+  pub no_escape : s.tag ≡ 4 → ⊥
+
 -- v tells of st, 6 and 7 do not hold of s, and this is its gap and its place
 pub record Visited (text : Bytes) (v : View) (s : Span) (gap : Bool) (here : Here) (st : State) : Type 0 where
   pub tells : Tells text v st

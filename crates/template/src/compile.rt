@@ -8,10 +8,11 @@ ghost use Rattle.template.specs.Finish.{walk_answer};
 
 use crate::element::Element;
 use crate::frame::Marks;
+use crate::input::Input;
 use crate::lines::find_lines;
 use crate::reason::checks;
 use crate::refusal::{Reason, Refusal};
-use crate::visit::{Input, Options};
+use crate::visit::Options;
 use crate::walk::walk;
 use json_path::span::span_count;
 

@@ -4,6 +4,7 @@
 pub mod compile;
 mod element;
 mod frame;
+mod input;
 mod lines;
 mod list;
 mod raw;

@@ -7,16 +7,17 @@ ghost use Rattle.json_path.specs.Answers.{Walked};
 ghost use Rattle.template.specs.Kind.{plain, skipped, kind_of};
 ghost use Rattle.template.specs.Checks.{max_spans};
 ghost use Rattle.template.specs.Step.{after_gap, standalone};
-ghost use Rattle.template.specs.Element.{Good, new_element};
+ghost use Rattle.template.specs.Element.{new_element};
 ghost use Rattle.template.specs.Visit.{stage_means, some_step, VisitIs};
-ghost use Rattle.template.specs.Lines.{LinesAre};
 ghost use Rattle.template.specs.Turn.{still_step};
-ghost use Rattle.template.specs.Visiting.{SpanFits, KindIs, TagMakes, AdvanceIs, front_of, raw_front, gap_element, text_element, text_step, trim_of, helper_of, decorator_of, CutIs, LineIs, StageIs, ElementIs, BeginIs, ActIs, IndentIs, RefusalIs};
+ghost use Rattle.template.specs.Deciding.{Decides};
+ghost use Rattle.template.specs.Visiting.{TagMakes, AdvanceIs, front_of, raw_front, gap_element, text_step, trim_of, helper_of, decorator_of, CutIs, LineIs, StageIs, ElementIs, BeginIs, ActIs, IndentIs, RefusalIs};
 
 use crate::element::{
     Back, Comment, DecoratorTemplate, Element, Front, HelperTemplate, RawString, TemplateElement,
 };
 use crate::frame::{Marks, Opened, Stage};
+use crate::input::{Input, Visit};
 use crate::reason::{
     bad_escapes, decorator_name_differs, fault_place, helper_name_differs, kept_gap, nests,
     too_many_open,
@@ -32,19 +33,6 @@ use support::position::{Place, line_col};
 pub struct Options {
     pub prevent_indent: bool,
     pub is_partial: bool,
-}
-
-// The input of a call that 1 to 5 have found good: a text, its span words and the options; and the tables of
-// the empty lines that start and end at each offset of the text.
-#[derive(Clone, Copy)]
-pub struct Input<'a> {
-    pub text: &'a [u8],
-    pub words: &'a [u32],
-    pub options: Options,
-    pub starts: &'a [bool],
-    pub ends: &'a [bool],
-    ghost good: { Good text.now words.now },
-    ghost lines: { LinesAre text.now starts.now ends.now },
 }
 
 // The place of the offset `at`.
@@ -138,25 +126,6 @@ fn front_of(m: Marks) -> Front
     Front::Kept
 }
 
-// The gap before a span, as a text, if it is kept.
-fn gap_of(words: &[u32], m: Marks, s: Span, place: Place, kept: bool) -> Option<Element>
-    ensures { result ≡ gap_element words.now m s place kept }
-{
-    if !kept {
-        return None;
-    }
-    Some(Element::new(
-        TemplateElement::RawString(RawString {
-            start: m.prev_end(),
-            end: s.start,
-            escapes: span_count(words),
-            front: front_of(m),
-            back: Back::Kept,
-        }),
-        place,
-    ))
-}
-
 // A raw block that waits takes the gap as its body.
 fn stage_after_gap(g: Stage, gap: bool) -> Stage
     ensures { stage_means result ≡ if gap (after_gap (stage_means g)) (stage_means g) }
@@ -171,46 +140,6 @@ fn stage_after_gap(g: Stage, gap: bool) -> Stage
     }
 }
 
-fn skipped(words: &[u32], v: View, s: Span, gap: bool, here: Here) -> Step
-    requires kind { kind_of s.tag ≡ plain skipped }
-    requires counted { s.number < span_count words.now }
-    ensures { (text : Bytes) (o : Options) → KindIs text words.now o v s gap here (Ok result) }
-{
-    let m = v.marks;
-    Step {
-        gap: gap_of(words, m, s, here.place, gap),
-        back: Back::Kept,
-        act: Act::Skip,
-        marks: Marks {
-            stage: stage_after_gap(m.stage, gap),
-            end_pos: Some(s.end),
-            trim_line_required: but_not(m.trim_line_required, gap),
-            ..m
-        },
-        here,
-        next: s.number + 1,
-    }
-}
-
-// A template span gives the body that is waited for; it does not become the previous one.
-fn template(v: View, s: Span) -> Step
-    requires tag_is { s.tag ≡ 1 }
-    requires counted { s.number < max_spans }
-    ensures { (text : Bytes) (words : List ℕ) (o : Options) (gap : Bool) (here : Here) → KindIs text words o v s gap here (Ok result) }
-{
-    Step {
-        gap: None,
-        back: Back::Kept,
-        act: Act::Skip,
-        marks: Marks {
-            stage: Stage::Filling,
-            ..v.marks
-        },
-        here: v.here,
-        next: s.number + 1,
-    }
-}
-
 fn raw_front(m: Marks) -> Front
     ensures { result ≡ raw_front m }
 {
@@ -218,91 +147,6 @@ fn raw_front(m: Marks) -> Front
         return Front::White;
     }
     front_of(m)
-}
-
-// The text of tag 2, from the previous end, or 3, its own span.
-fn text_of(v: View, s: Span, start: usize, place: Place) -> Element
-    requires { s.number < max_spans }
-    ensures { result ≡ text_element v s start place }
-{
-    Element::new(
-        TemplateElement::RawString(RawString {
-            start,
-            end: s.end,
-            escapes: s.number + 1,
-            front: raw_front(v.marks),
-            back: Back::Kept,
-        }),
-        place,
-    )
-}
-
-// The step of a text; behind it this stage and this line mark.
-fn text_step(v: View, s: Span, start: usize, here: Here, stage: Stage, line: bool) -> Step
-    requires { s.number < max_spans }
-    ensures { result ≡ text_step v s here start stage line }
-{
-    Step {
-        gap: None,
-        back: Back::Kept,
-        act: Act::Add(text_of(v, s, start, here.place), Added::Leaf),
-        marks: Marks {
-            stage,
-            end_pos: Some(s.end),
-            trim_line_required: line,
-            ..v.marks
-        },
-        here,
-        next: s.number + 1,
-    }
-}
-
-// The text of tag 2 begins at the previous end. That of tag 3 is its own span; a raw body takes nothing more.
-fn raw_string(input: &Input, v: View, s: Span, here: Here) -> Result<Step, Refusal>
-    requires first_tag { 2 ≤ s.tag }
-    requires last_tag { s.tag ≤ 3 }
-    requires counted { s.number < max_spans }
-    ensures { (gap : Bool) → KindIs input.now.text.now input.now.words.now input.now.options v s gap here result }
-{
-    let m = v.marks;
-    let is_block = s.tag == 3;
-    let start = if is_block { s.start } else { m.prev_end() };
-    if bad_escapes(input.text, input.words, start, s.end, s.number + 1) {
-        return Err(Refusal {
-            reason: Reason::BadEscape,
-            place: s.number,
-        });
-    }
-    if is_block {
-        Ok(text_step(v, s, start, here, Stage::Full, m.trim_line_required))
-    } else {
-        Ok(text_step(v, s, start, here, Stage::Filling, false))
-    }
-}
-
-// An empty line starts after the tag, or nothing at all follows and it is no partial.
-fn with_trailing_newline(input: &Input, end: usize) -> bool
-    requires { end ≤ length input.now.text.now }
-    ensures { result ≡ (starts_with_empty_line (drop end input.now.text.now) || (is_empty (drop end input.now.text.now) && not input.now.options.is_partial)) }
-{
-    if input.starts[end] {
-        return true;
-    }
-    if end == input.text.len() {
-        return !input.options.is_partial;
-    }
-    false
-}
-
-// And an empty line ends before it.
-fn process_standalone_statement(input: &Input, s: Span) -> bool
-    requires { SpanFits input.now.text.now s }
-    ensures { result ≡ standalone input.now.text.now input.now.options.is_partial s }
-{
-    if !with_trailing_newline(input, s.end) {
-        return false;
-    }
-    input.ends[s.start]
 }
 
 // How the last text is trimmed: by a left tilde, or by the standalone test.
@@ -329,31 +173,6 @@ fn comment_of(s: Span, place: Place) -> Element
         }),
         place,
     )
-}
-
-fn comment(input: &Input, v: View, s: Span, gap: bool, here: Here) -> Step
-    requires first_tag { 19 ≤ s.tag }
-    requires last_tag { s.tag ≤ 20 }
-    requires counted { s.number < max_spans }
-    requires fits { SpanFits input.now.text.now s }
-    ensures { KindIs input.now.text.now input.now.words.now input.now.options v s gap here (Ok result) }
-{
-    let m = v.marks;
-    let standalone = process_standalone_statement(input, s);
-    let e = comment_of(s, here.place);
-    Step {
-        gap: gap_of(input.words, m, s, here.place, gap),
-        back: trim_of(false, standalone),
-        act: Act::Add(e, Added::Leaf),
-        marks: Marks {
-            stage: stage_after_gap(m.stage, gap),
-            end_pos: Some(s.end),
-            trim_line_required: standalone,
-            ..m
-        },
-        here,
-        next: s.number + 1,
-    }
 }
 
 fn helper(x: TagExpression, s: Span, indent: bool) -> HelperTemplate
@@ -466,34 +285,6 @@ fn line_mark(tag: u32, standalone: bool, line: bool) -> bool
     }
 }
 
-fn step_of(input: &Input, v: View, s: Span, x: TagExpression, gap: bool, here: Here) -> Step
-    requires first_tag { 5 ≤ s.tag }
-    requires last_tag { s.tag ≤ 18 }
-    requires fits { SpanFits input.now.text.now s }
-    ensures { TagMakes input.now.text.now input.now.words.now input.now.options v s x gap here result }
-{
-    let m = v.marks;
-    let standalone = process_standalone_statement(input, s);
-    let line = but_not(m.trim_line_required, gap);
-    let mark = but_not(standalone, x.omit_pre_ws);
-    let indent = is_indented(s.tag, input.options.prevent_indent, x.omit_pre_ws);
-    let cut = is_cut(s.tag, standalone, input.options.prevent_indent);
-    let e = Element::named(element_of(s, x, mark, indent), x.name, here.place);
-    Step {
-        gap: gap_of(input.words, m, s, here.place, gap),
-        back: trim_of(x.omit_pre_ws, cut),
-        act: act_of(s.tag, e),
-        marks: Marks {
-            stage: stage_of(s.tag),
-            end_pos: Some(s.end),
-            omit_pro_ws: x.omit_pro_ws,
-            trim_line_required: line_mark(s.tag, standalone, line),
-        },
-        here,
-        next: x.next,
-    }
-}
-
 // 12, 10 or 11, in this order.
 fn refusal_of(
     text: &[u8],
@@ -516,68 +307,269 @@ fn refusal_of(
     None
 }
 
-// 8, 9 and 12 as met, open blocks last; 10, 11.
-fn tagged(input: &Input, v: View, s: Span, gap: bool, here: Here) -> Result<Step, Refusal>
-    requires first_tag { 5 ≤ s.tag }
-    requires last_tag { s.tag ≤ 18 }
-    requires counted { s.number < span_count input.now.words.now }
-    requires fits { SpanFits input.now.text.now s }
-    ensures { KindIs input.now.text.now input.now.words.now input.now.options v s gap here result }
-{
-    match read_tag(input.text, input.words, s) {
-        Err(f) => Err(Refusal {
-            reason: Reason::from(f),
-            place: fault_place(span_count(input.words), s, f),
-        }),
-        Ok(x) => {
-            let end = x.name.as_name();
-            if let Some(reason) = refusal_of(input.text, s.tag, v.count, v.name, end) {
-                return Err(Refusal {
-                    reason,
-                    place: s.number,
-                });
+impl Visit<'_> {
+    // The gap before the span, as a text, if it is kept.
+    fn gap_of(&self) -> Option<Element>
+        ensures { result ≡ gap_element self.now.input.now.words.now self.now.view.marks self.now.span self.now.here.place self.now.gap }
+    {
+        if !self.gap {
+            return None;
+        }
+        let m = self.view.marks;
+        Some(Element::new(
+            TemplateElement::RawString(RawString {
+                start: m.prev_end(),
+                end: self.span.start,
+                escapes: span_count(self.input.words),
+                front: front_of(m),
+                back: Back::Kept,
+            }),
+            self.here.place,
+        ))
+    }
+
+    fn skipped(&self) -> Step
+        requires { kind_of self.now.span.tag ≡ plain skipped }
+        ensures { Decides self.now (Ok result) }
+    {
+        let m = self.view.marks;
+        Step {
+            gap: self.gap_of(),
+            back: Back::Kept,
+            act: Act::Skip,
+            marks: Marks {
+                stage: stage_after_gap(m.stage, self.gap),
+                end_pos: Some(self.span.end),
+                trim_line_required: but_not(m.trim_line_required, self.gap),
+                ..m
+            },
+            here: self.here,
+            next: self.span.number + 1,
+        }
+    }
+
+    // A template span gives the body that is waited for; it does not become the previous one.
+    fn template(&self) -> Step
+        requires { self.now.span.tag ≡ 1 }
+        ensures { Decides self.now (Ok result) }
+    {
+        Step {
+            gap: None,
+            back: Back::Kept,
+            act: Act::Skip,
+            marks: Marks {
+                stage: Stage::Filling,
+                ..self.view.marks
+            },
+            here: self.view.here,
+            next: self.span.number + 1,
+        }
+    }
+
+    // The step of a text from `start` on; after it this stage and this line mark.
+    fn text_step(&self, start: usize, stage: Stage, line: bool) -> Step
+        ensures { result ≡ text_step self.now.view self.now.span self.now.here start stage line }
+    {
+        let m = self.view.marks;
+        let e = Element::new(
+            TemplateElement::RawString(RawString {
+                start,
+                end: self.span.end,
+                escapes: self.span.number + 1,
+                front: raw_front(m),
+                back: Back::Kept,
+            }),
+            self.here.place,
+        );
+        Step {
+            gap: None,
+            back: Back::Kept,
+            act: Act::Add(e, Added::Leaf),
+            marks: Marks {
+                stage,
+                end_pos: Some(self.span.end),
+                trim_line_required: line,
+                ..m
+            },
+            here: self.here,
+            next: self.span.number + 1,
+        }
+    }
+
+    // The text of tag 2 begins at the previous end. That of tag 3 is its own span; a raw body takes nothing more.
+    fn raw_string(&self) -> Result<Step, Refusal>
+        requires first_tag { 2 ≤ self.now.span.tag }
+        requires last_tag { self.now.span.tag ≤ 3 }
+        ensures { Decides self.now result }
+    {
+        let s = self.span;
+        let m = self.view.marks;
+        let is_block = s.tag == 3;
+        let start = if is_block { s.start } else { m.prev_end() };
+        if bad_escapes(
+            self.input.text,
+            self.input.words,
+            start,
+            s.end,
+            s.number + 1,
+        ) {
+            return Err(Refusal {
+                reason: Reason::BadEscape,
+                place: s.number,
+            });
+        }
+        if is_block {
+            Ok(self.text_step(start, Stage::Full, m.trim_line_required))
+        } else {
+            Ok(self.text_step(start, Stage::Filling, false))
+        }
+    }
+
+    // An empty line starts after the tag, or nothing at all follows and it is no partial.
+    fn with_trailing_newline(&self) -> bool
+        ensures { result ≡ (starts_with_empty_line (drop self.now.span.end self.now.input.now.text.now) || (is_empty (drop self.now.span.end self.now.input.now.text.now) && not self.now.input.now.options.is_partial)) }
+    {
+        let input = self.input;
+        if input.starts[self.span.end] {
+            return true;
+        }
+        if self.span.end == input.text.len() {
+            return !input.options.is_partial;
+        }
+        false
+    }
+
+    // And an empty line ends before it.
+    fn process_standalone_statement(&self) -> bool
+        ensures { result ≡ standalone self.now.input.now.text.now self.now.input.now.options.is_partial self.now.span }
+    {
+        if !self.with_trailing_newline() {
+            return false;
+        }
+        self.input.ends[self.span.start]
+    }
+
+    fn comment(&self) -> Step
+        requires first_tag { 19 ≤ self.now.span.tag }
+        requires last_tag { self.now.span.tag ≤ 20 }
+        ensures { Decides self.now (Ok result) }
+    {
+        let m = self.view.marks;
+        let standalone = self.process_standalone_statement();
+        let e = comment_of(self.span, self.here.place);
+        Step {
+            gap: self.gap_of(),
+            back: trim_of(false, standalone),
+            act: Act::Add(e, Added::Leaf),
+            marks: Marks {
+                stage: stage_after_gap(m.stage, self.gap),
+                end_pos: Some(self.span.end),
+                trim_line_required: standalone,
+                ..m
+            },
+            here: self.here,
+            next: self.span.number + 1,
+        }
+    }
+
+    // The step of a tag whose expression was read.
+    fn step_of(&self, x: TagExpression) -> Step
+        requires first_tag { 5 ≤ self.now.span.tag }
+        requires last_tag { self.now.span.tag ≤ 18 }
+        ensures { TagMakes self.now.input.now.text.now self.now.input.now.words.now self.now.input.now.options self.now.view self.now.span x self.now.gap self.now.here result }
+    {
+        let s = self.span;
+        let m = self.view.marks;
+        let prevent_indent = self.input.options.prevent_indent;
+        let standalone = self.process_standalone_statement();
+        let line = but_not(m.trim_line_required, self.gap);
+        let mark = but_not(standalone, x.omit_pre_ws);
+        let indent = is_indented(s.tag, prevent_indent, x.omit_pre_ws);
+        let cut = is_cut(s.tag, standalone, prevent_indent);
+        let e = Element::named(element_of(s, x, mark, indent), x.name, self.here.place);
+        Step {
+            gap: self.gap_of(),
+            back: trim_of(x.omit_pre_ws, cut),
+            act: act_of(s.tag, e),
+            marks: Marks {
+                stage: stage_of(s.tag),
+                end_pos: Some(s.end),
+                omit_pro_ws: x.omit_pro_ws,
+                trim_line_required: line_mark(s.tag, standalone, line),
+            },
+            here: self.here,
+            next: x.next,
+        }
+    }
+
+    // 8, 9 and 12 as met, open blocks last; 10, 11.
+    fn tagged(&self) -> Result<Step, Refusal>
+        requires first_tag { 5 ≤ self.now.span.tag }
+        requires last_tag { self.now.span.tag ≤ 18 }
+        ensures { Decides self.now result }
+    {
+        let input = self.input;
+        let s = self.span;
+        match read_tag(input.text, input.words, s) {
+            Err(f) => Err(Refusal {
+                reason: Reason::from(f),
+                place: fault_place(span_count(input.words), s, f),
+            }),
+            Ok(x) => {
+                let end = x.name.as_name();
+                let opened = self.view.name;
+                if let Some(reason) = refusal_of(input.text, s.tag, self.view.count, opened, end) {
+                    return Err(Refusal {
+                        reason,
+                        place: s.number,
+                    });
+                }
+                Ok(self.step_of(x))
             }
-            Ok(step_of(input, v, s, x, gap, here))
+        }
+    }
+
+    // What is decided of a span after 6 and 7, by its tag.
+    // Stays: a tag is a number, since document 01 has one match over the tag number, with ranges.
+    fn visit_kind(&self) -> Result<Step, Refusal>
+        ensures { Decides self.now result }
+    {
+        match self.span.tag {
+            1 => Ok(self.template()),
+            2..=3 => self.raw_string(),
+            5..=18 => self.tagged(),
+            19..=20 => Ok(self.comment()),
+            _ => Ok(self.skipped()),
         }
     }
 }
 
-// What is decided of a span behind 6 and 7, by its tag.
-// Stays: a tag is a number, since document 01 has one match over the tag number, with ranges.
-fn visit_kind(input: &Input, v: View, s: Span, gap: bool, here: Here) -> Result<Step, Refusal>
-    requires counted { s.number < span_count input.now.words.now }
-    requires no_escape { (s.tag ≡ 4 → ⊥) }
-    requires fits { SpanFits input.now.text.now s }
-    ensures { KindIs input.now.text.now input.now.words.now input.now.options v s gap here result }
-{
-    match s.tag {
-        1 => Ok(template(v, s)),
-        2..=3 => raw_string(input, v, s, here),
-        5..=18 => tagged(input, v, s, gap, here),
-        19..=20 => Ok(comment(input, v, s, gap, here)),
-        _ => Ok(skipped(input.words, v, s, gap, here)),
-    }
-}
-
 // A walked span: 6, 7, and then by its tag.
-pub(crate) fn visit_span(input: &Input, v: View, s: Span) -> Result<Step, Refusal>
-    requires { (at : ℕ) × Walked input.now.words.now at s }
-    ensures { (at : ℕ) → Walked input.now.words.now at s → VisitIs input.now.text.now input.now.words.now input.now.options v at (some_step result) }
+pub(crate) fn visit_span(input: &Input, view: View, span: Span) -> Result<Step, Refusal>
+    requires { (at : ℕ) × Walked input.now.words.now at span }
+    ensures { (at : ℕ) → Walked input.now.words.now at span → VisitIs input.now.text.now input.now.words.now input.now.options view at (some_step result) }
 {
-    let m = v.marks;
-    if s.start < m.prev_end() {
+    let m = view.marks;
+    if span.start < m.prev_end() {
         return Err(Refusal {
             reason: Reason::OutOfOrder,
-            place: s.number,
+            place: span.number,
         });
     }
-    let gap = kept_gap(m, s);
-    if !nests(m.stage, v.opened, v.inverted, s.tag, gap) {
+    let gap = kept_gap(m, span);
+    if !nests(m.stage, view.opened, view.inverted, span.tag, gap) {
         return Err(Refusal {
             reason: Reason::BadNesting,
-            place: s.number,
+            place: span.number,
         });
     }
-    let here = advance(input.text, v.here, s.start);
-    visit_kind(input, v, s, gap, here)
+    let here = advance(input.text, view.here, span.start);
+    let visit = Visit {
+        input,
+        view,
+        span,
+        gap,
+        here,
+    };
+    visit.visit_kind()
 }

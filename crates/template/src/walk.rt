@@ -5,11 +5,12 @@ ghost use Rattle.template.specs.Finish.{unfinished_at, RestIs, walk_listing, Buf
 
 use crate::element::{Back, Element, Front, RawString, TemplateElement};
 use crate::frame::{Frame, Marks};
+use crate::input::Input;
 use crate::reason::is_filling;
 use crate::refusal::{Reason, Refusal};
 use crate::tree::write_tree;
 use crate::turn::{Standing, join, take_gap, take_turn};
-use crate::visit::{Here, Input, Step, View, visit_span};
+use crate::visit::{Here, Step, View, visit_span};
 use json_path::span::{next_span, span_count};
 use support::bytes::part;
 use support::position::line_col;
