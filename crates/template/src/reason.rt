@@ -11,6 +11,7 @@ ghost use Rattle.template.specs.Visit.{stage_means};
 ghost use Rattle.template.specs.Asked.{KeptIs, RawIs, TakesIs, OfKindIs, NestsIs, TooManyIs, HelperDiffersIs, DecoratorDiffersIs};
 
 use crate::frame::{Frame, Marks, Opened, Stage};
+use crate::input::Input;
 use crate::refusal::{Reason, Refusal};
 use crate::visit::Options;
 use expression::parameter::Fault;
@@ -211,21 +212,15 @@ fn bad_escape(text: &[u8], least: usize, x: Span) -> bool
 }
 
 // 13: one of the escapes listed from number `from` on, up to one ending past the limit, is bad.
-pub(crate) fn bad_escapes(
-    text: &[u8],
-    words: &[u32],
-    start: usize,
-    limit: usize,
-    from: usize,
-) -> bool
-    ensures { result ≡ bad_escapes text.now start (escapes_to limit (escapes_from words.now from)) }
+pub(crate) fn bad_escapes(input: &Input, start: usize, limit: usize, from: usize) -> bool
+    ensures { result ≡ bad_escapes input.now.text.now start (escapes_to limit (escapes_from input.now.words.now from)) }
 {
     let mut least = start;
     let mut k = from;
-    while let Some(x) = escape_at(words, k)
+    while let Some(x) = escape_at(input.words, k)
         && x.end <= limit
     {
-        if bad_escape(text, least, x) {
+        if bad_escape(input.text, least, x) {
             return true;
         }
         least = x.start + 1;

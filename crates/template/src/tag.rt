@@ -1,11 +1,10 @@
 // The expression of a tag, read from the spans after it, with its literals judged.
-ghost use Rattle.std.specs.Prelude.{◌≡◌, ◌<◌};
-ghost use Rattle.json_path.specs.Span.{span_count};
+ghost use Rattle.std.specs.Prelude.{◌≡◌};
 ghost use Rattle.template.specs.TagRead.{OwnReadIs, TagReadIs};
 
+use crate::input::{Input, Visit};
 use expression::parameter::{Fault, Parameter, Subexpression};
 use expression::parse::{parse_expression, parse_name, parse_tilde};
-use json_path::span::Span;
 
 // Tildes, name, the number from which the expression is read, and the one behind it.
 #[derive(Clone, Copy)]
@@ -18,16 +17,17 @@ pub struct TagExpression {
 }
 
 // From number `from` on up to the limit; `left`: a left tilde stood before.
-fn read_own(
-    text: &[u8],
-    words: &[u32],
-    from: usize,
-    limit: usize,
-    left: bool,
-) -> Result<TagExpression, Fault>
-    ensures { OwnReadIs text.now words.now from limit left result }
+fn read_own(input: &Input, from: usize, limit: usize, left: bool) -> Result<TagExpression, Fault>
+    ensures { OwnReadIs input.now.text.now input.now.words.now from limit left result }
 {
-    let x = parse_expression(text, words, from, limit, Subexpression::LIMIT, true)?;
+    let x = parse_expression(
+        input.text,
+        input.words,
+        from,
+        limit,
+        Subexpression::LIMIT,
+        true,
+    )?;
     Ok(TagExpression {
         omit_pre_ws: left || x.omit_pre_ws,
         omit_pro_ws: x.omit_pro_ws,
@@ -38,21 +38,21 @@ fn read_own(
 }
 
 // Tag 10 takes a left tilde, a name, then its expression.
-fn read_chain(text: &[u8], words: &[u32], s: Span) -> Result<TagExpression, Fault>
-    requires { s.number < span_count words.now }
-    ensures { s.tag ≡ 10 → TagReadIs text.now words.now s result }
+fn read_chain(visit: &Visit) -> Result<TagExpression, Fault>
+    ensures { visit.now.span.tag ≡ 10 → TagReadIs visit.now.input.now.text.now visit.now.input.now.words.now visit.now.span result }
 {
-    let (left, at) = parse_tilde(words, s.number + 1)?;
-    let (_, next) = parse_name(text, words, at, Subexpression::LIMIT, true)?;
-    read_own(text, words, next, s.end, left)
+    let input = visit.input;
+    let (left, at) = parse_tilde(input.words, visit.span.number + 1)?;
+    let (_, next) = parse_name(input.text, input.words, at, Subexpression::LIMIT, true)?;
+    read_own(input, next, visit.span.end, left)
 }
 
-pub(crate) fn read_tag(text: &[u8], words: &[u32], s: Span) -> Result<TagExpression, Fault>
-    requires { s.number < span_count words.now }
-    ensures { TagReadIs text.now words.now s result }
+pub(crate) fn read_tag(visit: &Visit) -> Result<TagExpression, Fault>
+    ensures { TagReadIs visit.now.input.now.text.now visit.now.input.now.words.now visit.now.span result }
 {
+    let s = visit.span;
     if s.tag == 10 {
-        return read_chain(text, words, s);
+        return read_chain(visit);
     }
-    read_own(text, words, s.number + 1, s.end, false)
+    read_own(visit.input, s.number + 1, s.end, false)
 }

@@ -406,13 +406,7 @@ impl Visit<'_> {
         let m = self.view.marks;
         let is_block = s.tag == 3;
         let start = if is_block { s.start } else { m.prev_end() };
-        if bad_escapes(
-            self.input.text,
-            self.input.words,
-            start,
-            s.end,
-            s.number + 1,
-        ) {
+        if bad_escapes(self.input, start, s.end, s.number + 1) {
             return Err(Refusal {
                 reason: Reason::BadEscape,
                 place: s.number,
@@ -510,7 +504,7 @@ impl Visit<'_> {
     {
         let input = self.input;
         let s = self.span;
-        match read_tag(input.text, input.words, s) {
+        match read_tag(self) {
             Err(f) => Err(Refusal {
                 reason: Reason::from(f),
                 place: fault_place(span_count(input.words), s, f),

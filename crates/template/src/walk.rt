@@ -23,20 +23,20 @@ fn unfinished(text: &[u8], m: Marks, depth: usize) -> bool
 }
 
 // The text after the last previous end, if there is any.
-fn rest_of(text: &[u8], words: &[u32], m: Marks, h: Here) -> Option<Element>
-    ensures { RestIs text.now words.now m h result }
+fn rest_of(input: &Input, m: Marks, h: Here) -> Option<Element>
+    ensures { RestIs input.now.text.now input.now.words.now m h result }
 {
     let from = m.prev_end();
-    if from < text.len() {
+    if from < input.text.len() {
         Some(Element::new(
             TemplateElement::RawString(RawString {
                 start: from,
-                end: text.len(),
-                escapes: span_count(words),
+                end: input.text.len(),
+                escapes: span_count(input.words),
                 front: Front::Kept,
                 back: Back::Kept,
             }),
-            line_col(h.place, part(text, h.at, from)),
+            line_col(h.place, part(input.text, h.at, from)),
         ))
     } else {
         None
@@ -79,7 +79,7 @@ pub(crate) fn walk<const N: usize>(input: &Input, out: &mut [u8]) -> Result<usiz
             place: span_count(input.words),
         });
     }
-    let rest = rest_of(input.text, input.words, b.marks, b.here);
+    let rest = rest_of(input, b.marks, b.here);
     let g = take_gap(rest, b.len);
     elements[b.len] = g.made;
     let top = join(&mut elements, b.top, g.join);

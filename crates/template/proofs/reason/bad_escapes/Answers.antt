@@ -31,7 +31,7 @@ overflow_add-least c =
     let good = c.well_formed in
     let loop = c.loop-x in
     omega
-    (arith, good, laws.escape_inside a.text.now loop.least c.in-Some.x (sym c.bad_escape.ensures ∙ c.if-bad_escape.false))
+    (arith, good, laws.escape_inside a.input.now.text.now loop.least c.in-Some.x (sym c.bad_escape.ensures ∙ c.if-bad_escape.false))
 
 pub overflow_add-k : goal.overflow_add-k
 overflow_add-k c =

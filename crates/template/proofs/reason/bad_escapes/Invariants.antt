@@ -5,7 +5,7 @@ use Rattle.template.proofs.EscapeLaws as laws
 use Rattle.template.proofs.reason.bad_escapes.Given as goal
 
 abbrev pub invariant-loop-x : goal.invariant-loop-x
-invariant-loop-x l = laws.Escaping l.text l.words l.start l.limit l.from l.least l.k
+invariant-loop-x l = laws.Escaping l.input.text.now l.input.words.now l.start l.limit l.from l.least l.k
 
 abbrev pub decreases-loop-x : goal.decreases-loop-x
-decreases-loop-x l = length l.words - l.k
+decreases-loop-x l = length l.input.words.now - l.k

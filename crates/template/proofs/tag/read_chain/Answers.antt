@@ -5,15 +5,15 @@ use Rattle.template.proofs.tag.read_chain.Goals as goal
 
 pub returns-in_err-left : goal.returns-in_err-left
 returns-in_err-left c =
-    let a = c.args in
-    rw (handed_on c.from_residual.ensures.1) (laws.chain_ended a.text.now a.words.now a.s c.in_err-left.ensures)
+    let x = c.args.visit.now in
+    rw (handed_on c.from_residual.ensures.1) (laws.chain_ended x.input.now.text.now x.input.now.words.now x.span c.in_err-left.ensures)
 
 pub returns-in_err-next : goal.returns-in_err-next
 returns-in_err-next c =
-    let a = c.args in
-    rw (handed_on c.from_residual-in_err-next.ensures.1) (laws.chain_no_name a.text.now a.words.now a.s c.in_ok-left.ensures c.in_err-next.ensures.reads)
+    let x = c.args.visit.now in
+    rw (handed_on c.from_residual-in_err-next.ensures.1) (laws.chain_no_name x.input.now.text.now x.input.now.words.now x.span c.in_ok-left.ensures c.in_err-next.ensures.reads)
 
 pub returns : goal.returns
 returns c =
-    let a = c.args in
-    laws.chain_own a.text.now a.words.now a.s c.in_ok-left.ensures c.in_ok-next.ensures c.read_own.result c.read_own.ensures
+    let x = c.args.visit.now in
+    laws.chain_own x.input.now.text.now x.input.now.words.now x.span c.in_ok-left.ensures c.in_ok-next.ensures c.read_own.result c.read_own.ensures

@@ -7,5 +7,5 @@ returns-then-s-eq10 c = c.read_chain.ensures c.if-s-eq10.true
 
 pub returns : goal.returns
 returns c =
-    let a = c.args in
-    laws.tag_own a.text.now a.words.now a.s c.read_own.result c.if-s-eq10.false c.read_own.ensures
+    let x = c.args.visit.now in
+    laws.tag_own x.input.now.text.now x.input.now.words.now x.span c.read_own.result c.if-s-eq10.false c.read_own.ensures
