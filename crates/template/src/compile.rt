@@ -49,6 +49,7 @@ fn compile_in<const LINES: usize, const STORE: usize, const ROOM: usize>(
     requires lent { (LINES ≤ 16385) × (ROOM ≤ 131072) }
     ensures { AnswerIs (walk_answer text.now words.now options (length out.old)) out.old out.new result }
 {
+    // Stays: arrays, since there is no heap: their sizes are the const parameters.
     let mut starts = [false; LINES];
     let mut ends = [false; LINES];
     find_lines(text, &mut starts, &mut ends);

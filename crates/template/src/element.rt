@@ -76,6 +76,7 @@ pub enum TemplateElement {
 // An element with its name, which only a tag has, its place (line 0: none) and its links: to the element
 // after it in its body, to the first of its own body, and to the first of its else, if it has one
 // (`inverted`). While its block is open, `inverse` of an else-if node is the node before it.
+// Stays: `inverted` beside `inverse`, since an else may be empty, and `inverse` is a link before there is an else.
 #[derive(Clone, Copy)]
 pub struct Element {
     pub element: TemplateElement,

@@ -80,6 +80,7 @@ impl TryFrom<u32> for Options {
 }
 
 // 1 to 5, in order.
+// Stays: what a call is lent is apart until it is known to be good, as `Input` says; the options are C's number.
 pub(crate) fn checks(text: &[u8], words: &[u32], options: u32) -> Result<Options, Refusal>
     ensures { CheckedIs text.now words.now options result }
 {
@@ -155,6 +156,7 @@ fn takes_else(o: Opened, inverted: bool) -> bool
 }
 
 // An end tag needs the innermost block's kind.
+// Stays: here and below a tag is a number, since document 01 has one match over the tag number, with ranges.
 fn is_of_kind(tag: u32, o: Opened) -> bool
     ensures { OfKindIs tag o result }
 {

@@ -70,6 +70,7 @@ fn filled(f: Frame, first: usize, last: usize) -> Frame
 }
 
 // Nothing happens, or `join` joins the body on top.
+// Stays: field by field, since a plan has other names than `Open`, and more of them.
 fn plain(o: Open, made: Element, len: usize, join: usize) -> Plan
     ensures { result ≡ plain_plan o made len join }
 {
@@ -281,6 +282,8 @@ pub(crate) fn take_gap(gap: Option<Element>, len: usize) -> Gapped
 // Where the walk stands: the body on top, the marks, the place found last; how many bodies are around that
 // body, how many elements there are, and how many blocks with their else-ifs are open; whether a block closes;
 // the number of the next span.
+// Stays: `len` and `depth` are here and in no type with the store and the frames, since a turn stores at them
+// also what does not stay, and neither takes back what it stored.
 #[derive(Clone, Copy)]
 pub struct Standing {
     pub top: Frame,

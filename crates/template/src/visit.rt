@@ -197,6 +197,7 @@ fn decorator(x: TagExpression, s: Span, mark: bool, indent: bool) -> DecoratorTe
 }
 
 // The element that a tag makes; `mark`: the indent mark, `indent`: blanks are kept.
+// Stays: here and below a tag is a number, since document 01 has one match over the tag number, with ranges.
 fn element_of(s: Span, x: TagExpression, mark: bool, indent: bool) -> TemplateElement
     ensures { ElementIs s x mark indent result }
 {
@@ -254,7 +255,7 @@ fn is_indented(tag: u32, prevent_indent: bool, left: bool) -> bool
     }
 }
 
-// The stage behind a tag: block starts and else tags wait for a body.
+// The stage after a tag: block starts and else tags wait for a body.
 fn stage_of(tag: u32) -> Stage
     ensures { StageIs tag result }
 {
@@ -275,7 +276,7 @@ fn is_cut(tag: u32, standalone: bool, prevent_indent: bool) -> bool
     }
 }
 
-// The line mark behind a tag: tags 11 and 12 are not tested.
+// The line mark after a tag: tags 11 and 12 are not tested.
 fn line_mark(tag: u32, standalone: bool, line: bool) -> bool
     ensures { LineIs tag standalone line result }
 {
@@ -524,7 +525,6 @@ impl Visit<'_> {
     }
 
     // What is decided of a span after 6 and 7, by its tag.
-    // Stays: a tag is a number, since document 01 has one match over the tag number, with ranges.
     fn visit_kind(&self) -> Result<Step, Refusal>
         ensures { Decides self.now result }
     {

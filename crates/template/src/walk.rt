@@ -54,6 +54,7 @@ pub(crate) fn walk<const N: usize>(input: &Input, out: &mut [u8]) -> Result<usiz
     let mut elements = [Element::EMPTY; N];
     let mut levels = [Frame::EMPTY; Frame::LIMIT];
     let mut b = Standing::FIRST;
+    // Stays: `loop`, since a block that closes takes turns without a span.
     loop {
         let v = View {
             marks: b.marks,
