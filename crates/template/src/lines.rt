@@ -5,15 +5,18 @@ ghost use Rattle.template.specs.Lines.{line_across, StartsAre, EndsAre, LinesAre
 
 use support::str::{newline_matcher, whitespace_matcher};
 
-// Whether there is an empty line on one side of `c`; `line`: on its other side. Most bytes are above the
-// blanks and the newlines; among those no branch is taken, since it would be mispredicted at each blank between words.
+// Whether there is an empty line on one side of `c`; `line`: on its other side. The first test is there for
+// speed, since most bytes stand above the blanks and the newlines.
 fn line_across(c: u8, line: bool) -> bool
     ensures { result ≡ line_across c line }
 {
     if b' ' < c {
-        return false;
+        false
+    } else if whitespace_matcher(c) {
+        line
+    } else {
+        newline_matcher(c)
     }
-    (whitespace_matcher(c) & line) | newline_matcher(c)
 }
 
 // None starts at the end of the text; before it, by the byte that follows.
@@ -29,7 +32,7 @@ fn find_line_starts(text: &[u8], starts: &mut [bool])
     }
 }
 
-// One ends at the start of the text; behind it, by the byte before.
+// One ends at the start of the text; after it, by the byte before.
 fn find_line_ends(text: &[u8], ends: &mut [bool])
     requires { length text.now < length ends.old }
     ensures { EndsAre text.now ends.new }
