@@ -1,4 +1,4 @@
--- The laws for `replay`: the words that a record is given, and the records that are left behind one. Assumes nothing.
+-- The laws for `Replay::run`: the words that a record is given, and the records that are left behind one. Assumes nothing.
 use Prim.Native.Nat.{ℕ, zero, suc, ◌+◌, ◌≤◌, ◌<◌}
 use native.Mathlib.Omega.{arith}
 use mathlib.Core.Path.{◌≡◌, refl, sym, ap, ◌∙◌}
@@ -77,6 +77,10 @@ stored_words {line} {l} {m} {r} w = go (cases_lt (length l) (length (numbers lin
         ap (λ k. take k m) e ∙ ap (take (length ws)) w.stored ∙ fitting ws l h ∙ sym (take_all (length l) ws h)
 
 -- ---- the answers of the calls
+
+-- what calls at the records xs answer, calls at ys answer
+abbrev pub HandsOn : {E : Type 0} → (Bytes → List ℕ → Result (Unit {0}) E → Type 0) → List (Bytes × List ℕ) → List (Bytes × List ℕ) → Type 0
+HandsOn {E} P xs ys = (r : Result (Unit {0}) E) → AnswersIn P xs r → AnswersIn P ys r
 
 pub starts : {E : Type 0} (P : Bytes → List ℕ → Result (Unit {0}) E → Type 0) (n : ℕ) {s t : Bytes} → t ≡ s → (r : Result (Unit {0}) E) → AnswersIn P (records n t) r → AnswersIn P (records n s) r
 starts P n e r h = rw (sym e) h

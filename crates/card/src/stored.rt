@@ -2,7 +2,6 @@
 // with a length and so many bytes.
 ghost use Rattle.std.specs.Prelude.{◌≡◌, ◌+◌, length, drop, [], MatchOption};
 ghost use Rattle.std.specs.Iterator.{at_most};
-ghost use Rattle.std.specs.Fn.{FnReturnsAtPair};
 ghost use Rattle.card.specs.Stored.{first_line, after_line, FirstLineIs, WordsIs, RecordIs, BlockIs, records, AnswersIn};
 
 use crate::number::read_digits;
@@ -81,21 +80,30 @@ impl<'a> Iterator for Records<'a> {
     }
 }
 
-// Gives each record's text and words to `show`, in order, up to the first error. The words are stored in
-// the memory that is lent, as far as there is room.
-pub fn replay<F: Fn(&[u8], &[u32]) -> io::Result<()>>(
-    input: &[u8],
-    words: &mut [u32],
-    show: F,
-) -> io::Result<()>
-    requires { F.IsAlwaysCallable show }
-    ensures { AnswersIn (FnReturnsAtPair F.Fn show) (records (length words.old) input.now) result }
-{
-    for (text, line) in Records::new(input) {
-        let n = read_words(line, words);
-        show(text, &words[..n])?;
+// What gives each record's text and words to `show`, which may be called with any.
+// Stays: a function pointer beside the runtime that it writes to, in place of a closure that holds it. A ghost
+// field cannot cite a bound `F: Fn`, a `&dyn Fn` is refused as a field, and so is a pointer that names a type
+// parameter; a function over a closure would have a `requires`.
+#[derive(Drop)]
+pub struct Replay<'a> {
+    pub rt: &'a HostRuntime,
+    pub show: fn(&HostRuntime, &[u8], &[u32]) -> io::Result<()>,
+    ghost callable: { IsAlwaysCallable show },
+}
+
+impl<'a> Replay<'a> {
+    // Calls `show` at each record, in order, up to the first error. The words are stored in the memory that is
+    // lent, as far as there is room.
+    pub fn run(&self, input: &[u8], words: &mut [u32]) -> io::Result<()>
+        ensures { AnswersIn (λ text line r. (t w : _) × (t.now ≡ text) × (w.now ≡ line) × post self.now.show self.now.rt t w r)
+            (records (length words.old) input.now) result }
+    {
+        for (text, line) in Records::new(input) {
+            let n = read_words(line, words);
+            (self.show)(self.rt, text, &words[..n])?;
+        }
+        Ok(())
     }
-    Ok(())
 }
 
 // The blocks that are left, each the bytes behind a line with their length.

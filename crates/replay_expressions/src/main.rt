@@ -4,7 +4,7 @@
 #![tactic(auto)]
 
 use card::input::read_full;
-use card::stored::replay;
+use card::stored::Replay;
 use expression::again::{enter, next_key, next_param};
 use expression::parameter::{
     BlockParam, ExpressionSpec, Fault, Hash, Parameter, Parts, Subexpression,
@@ -234,13 +234,15 @@ fn show_record(rt: &impl Print, text: &[u8], words: &[u32]) -> io::Result<()> {
     show_at(rt, text, words, usize::MAX, usize::MAX)
 }
 
-// Stays: the lines of `replay_json_path`, since what the two share is `read_full` and `replay`. The memory is
+// Stays: the lines of `replay_json_path`, since what the two share is `read_full` and `Replay`. The memory is
 // arrays that are lent, since there is no heap.
 fn main(rt: HostRuntime) -> io::Result<()> {
     let mut input = [0u8; LIMIT];
     let n = read_full(&mut rt.stdin(), &mut input)?;
     let mut words = [0u32; 3 * Span::LIMIT];
-    replay(&input[..n], &mut words, |text, words| {
-        show_record(&rt, text, words)
-    })
+    let replay = Replay {
+        rt: &rt,
+        show: |rt, text, words| show_record(rt, text, words),
+    };
+    replay.run(&input[..n], &mut words)
 }

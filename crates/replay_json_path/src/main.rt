@@ -4,7 +4,7 @@
 #![tactic(auto)]
 
 use card::input::read_full;
-use card::stored::replay;
+use card::stored::Replay;
 use json_path::path::{Path, PathSeg, Relative, next_segment, parse_json_path};
 use json_path::span::{Span, escape_at, next_span, skip_to, span_at, span_count};
 use std::io;
@@ -100,13 +100,15 @@ fn show_record(rt: &impl Print, text: &[u8], words: &[u32]) -> io::Result<()> {
     show_at(rt, text, words, usize::MAX)
 }
 
-// Stays: the lines of `replay_expressions`, since what the two share is `read_full` and `replay`. The memory is
+// Stays: the lines of `replay_expressions`, since what the two share is `read_full` and `Replay`. The memory is
 // arrays that are lent, since there is no heap.
 fn main(rt: HostRuntime) -> io::Result<()> {
     let mut input = [0u8; LIMIT];
     let n = read_full(&mut rt.stdin(), &mut input)?;
     let mut words = [0u32; 3 * Span::LIMIT];
-    replay(&input[..n], &mut words, |text, words| {
-        show_record(&rt, text, words)
-    })
+    let replay = Replay {
+        rt: &rt,
+        show: |rt, text, words| show_record(rt, text, words),
+    };
+    replay.run(&input[..n], &mut words)
 }

@@ -4,7 +4,7 @@
 #![tactic(auto)]
 
 use card::input::read_full;
-use card::stored::replay;
+use card::stored::Replay;
 use expression::parameter::Subexpression;
 use json_path::span::{Span, span_at, span_count};
 use listing::children::{write_decorator, write_helper};
@@ -119,7 +119,9 @@ fn main(rt: HostRuntime) -> io::Result<()> {
     show_bytes(&rt)?;
     show_numbers(&rt)?;
     let mut words = [0u32; 3 * Span::LIMIT];
-    replay(&input[..n], &mut words, |text, words| {
-        show_record(&rt, text, words)
-    })
+    let replay = Replay {
+        rt: &rt,
+        show: |rt, text, words| show_record(rt, text, words),
+    };
+    replay.run(&input[..n], &mut words)
 }
