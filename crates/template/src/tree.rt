@@ -6,7 +6,7 @@ ghost use Rattle.template.specs.Finish.{TreeIs};
 
 use crate::element::Element;
 use crate::list::{Waiting, deeper, has_else, link_behind, link_inside, write_element, write_end};
-use listing::write::put_bytes;
+use listing::writer::Writer;
 
 // From element to element, and back to the block that waits where a body ends. At most as many blocks wait as
 // there are elements. What the output has no room for is only counted.
@@ -23,28 +23,30 @@ pub(crate) fn write_tree<const N: usize>(
     ensures { TreeIs text.now words.now elements.now first out.old out.new result }
 {
     let mut waiting = [Waiting::EMPTY; N];
-    let mut p = put_bytes(out, 0, b"[template\n");
+    let mut w = Writer { out, at: 0 };
+    w.put_bytes(b"[template\n");
     let mut link = first;
     let mut waits: usize = 0;
     loop {
         if link > 0 {
             let e = elements[link];
             let more = e.has_body();
-            p = write_element(out, p, text, words, e);
+            write_element(&mut w, text, words, e);
             waiting[waits] = Waiting::new(link, false);
             waits = deeper(waits, more);
             link = link_inside(e, more);
         } else if waits > 0 {
             waits -= 1;
-            let w = waiting[waits];
-            let e = elements[w.block];
-            let more = has_else(e, w);
-            p = write_end(out, p, more);
-            waiting[waits] = Waiting::new(w.block, true);
+            let x = waiting[waits];
+            let e = elements[x.block];
+            let more = has_else(e, x);
+            write_end(&mut w, more);
+            waiting[waits] = Waiting::new(x.block, true);
             waits = deeper(waits, more);
             link = link_behind(e, more);
         } else {
-            return put_bytes(out, p, b"]\n");
+            w.put_bytes(b"]\n");
+            return w.at;
         }
     }
 }
