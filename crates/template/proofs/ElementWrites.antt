@@ -21,7 +21,7 @@ use Rattle.listing.specs.Listing.{bit, place_field, indent_field, call_forms, it
 use Rattle.listing.specs.Children.{decorator_children, helper_children}
 use Rattle.listing.specs.Wrote.{Wrote}
 use Rattle.listing.specs.declared.writer.Writer.{Writer}
-use Rattle.listing.proofs.Writers.{wrote_none}
+use Rattle.listing.proofs.Writers.{wrote_none, wrote_then}
 use Rattle.template.specs.Step.{any_blanks}
 use Rattle.template.specs.Element.{place_means, link_of, raw_means, comment_means, call_at, indent_means, item_means, head_means, head_at, wrap_means, role_of, RawGood, Sound}
 use Rattle.template.specs.Opening.{block_opening, wrap_opening, decorated_bytes, opening_by, opening}
@@ -134,6 +134,10 @@ pub nothing_written : (text : Bytes) (words : List ℕ) (e : Element) {before : 
 unfolding opening_by
 nothing_written text words e {before} t = told_written text words e t (wrote_none before)
 
+-- the end behind a decorator's bytes
+ended : (x y z : Bytes) {before middle after : Writer} → Wrote (x ++ y) before middle → Wrote z middle after → Wrote (x ++ (y ++ z)) before after
+ended x y z {before} {after = after} f g = subst (λ w. Wrote w before after) (append_assoc x y z) (wrote_then f g)
+
 module _ (text : Bytes) (words : List ℕ) (e : Element) {before after : Writer} where
   pub text_written : {o : RawString} → e.element ≡ E.RawString o
       → Wrote (write_form (item_form (place_field (place_means e.place)) (T.text (raw_means text words o)))) before after
@@ -166,28 +170,28 @@ module _ (text : Bytes) (words : List ℕ) (e : Element) {before after : Writer}
   html_written t w = told_written text words e t (rw (head_one Word.html (place_field (place_means e.place)) _) w)
 
   pub decor_written : {d : DecoratorTemplate} → e.element ≡ E.DecoratorExpression d
-      → Wrote (ascii "[decor " ++ (decorated_bytes text words (place_means e.place) d ++ ascii "]\n")) before after
+      → {middle : Writer} → Wrote (ascii "[decor " ++ decorated_bytes text words (place_means e.place) d) before middle → Wrote (ascii "]\n") middle after
       → Wrote (opening text words e) before after
   unfolding opening_by item_means item_form write_form
-  decor_written {d} t w = told_written text words e t (rw (decorated_bytes_lem text words Word.decor (place_means e.place) d (ascii "]\n")) w)
+  decor_written {d} t w v = told_written text words e t (rw (decorated_bytes_lem text words Word.decor (place_means e.place) d (ascii "]\n")) (ended (ascii "[decor ") (decorated_bytes text words (place_means e.place) d) (ascii "]\n") w v))
 
   pub partial_written : {d : DecoratorTemplate} → e.element ≡ E.PartialExpression d
-      → Wrote (ascii "[partial " ++ (decorated_bytes text words (place_means e.place) d ++ ascii "]\n")) before after
+      → {middle : Writer} → Wrote (ascii "[partial " ++ decorated_bytes text words (place_means e.place) d) before middle → Wrote (ascii "]\n") middle after
       → Wrote (opening text words e) before after
   unfolding opening_by item_means item_form write_form
-  partial_written {d} t w = told_written text words e t (rw (decorated_bytes_lem text words Word.partial (place_means e.place) d (ascii "]\n")) w)
+  partial_written {d} t w v = told_written text words e t (rw (decorated_bytes_lem text words Word.partial (place_means e.place) d (ascii "]\n")) (ended (ascii "[partial ") (decorated_bytes text words (place_means e.place) d) (ascii "]\n") w v))
 
   pub decor_block_written : {d : DecoratorTemplate} → e.element ≡ E.DecoratorBlock d
-      → Wrote (ascii "[decor-block " ++ (decorated_bytes text words (place_means e.place) d ++ ascii "[body\n")) before after
+      → {middle : Writer} → Wrote (ascii "[decor-block " ++ decorated_bytes text words (place_means e.place) d) before middle → Wrote (ascii "[body\n") middle after
       → Wrote (opening text words e) before after
   unfolding opening_by wrap_means wrap_opening
-  decor_block_written {d} t w = told_written text words e t (rw (decorated_bytes_lem text words Word.decor_block (place_means e.place) d (ascii "[body\n")) w)
+  decor_block_written {d} t w v = told_written text words e t (rw (decorated_bytes_lem text words Word.decor_block (place_means e.place) d (ascii "[body\n")) (ended (ascii "[decor-block ") (decorated_bytes text words (place_means e.place) d) (ascii "[body\n") w v))
 
   pub partial_block_written : {d : DecoratorTemplate} → e.element ≡ E.PartialBlock d
-      → Wrote (ascii "[partial-block " ++ (decorated_bytes text words (place_means e.place) d ++ ascii "[body\n")) before after
+      → {middle : Writer} → Wrote (ascii "[partial-block " ++ decorated_bytes text words (place_means e.place) d) before middle → Wrote (ascii "[body\n") middle after
       → Wrote (opening text words e) before after
   unfolding opening_by wrap_means wrap_opening
-  partial_block_written {d} t w = told_written text words e t (rw (decorated_bytes_lem text words Word.partial_block (place_means e.place) d (ascii "[body\n")) w)
+  partial_block_written {d} t w v = told_written text words e t (rw (decorated_bytes_lem text words Word.partial_block (place_means e.place) d (ascii "[body\n")) (ended (ascii "[partial-block ") (decorated_bytes text words (place_means e.place) d) (ascii "[body\n") w v))
 
 pub block_bytes_lem : (text : Bytes) (words : List ℕ) (f : Field) (c : Bool) (h : HelperTemplate)
     → block_opening f c (head_at text words h)

@@ -20,7 +20,7 @@ use Rattle.listing.proofs.Writers.{wrote_then, Onward, onward_start, onward_as, 
 use Rattle.listing.proofs.ChildWrites.{call_join, block_join}
 use Rattle.template.specs.Element.{role_of, has_body, Sound}
 use Rattle.template.specs.Store.{element_at, Leaf, Helper, Wrapper, Chain, Node, ElseAt, Holds, Stored}
-use Rattle.template.specs.Opening.{block_opening, wrap_opening, opening_by, opening, waits, body_end, deeper, link_inside, link_behind}
+use Rattle.template.specs.Opening.{block_opening, wrap_opening, opening_by, opening, waits}
 use Rattle.template.specs.declared.element.Element.{Element}
 use Rattle.template.specs.declared.list.Waiting as code
 use Rattle.template.proofs.BodyAt.{else_of, body_at, chain_read, else_read, holds_one}
@@ -378,13 +378,13 @@ module _ (text : Bytes) (words : List ℕ) (st : List Element) where
           go (then (wrap p w b) r) c = c.4.0.is.sound
 
       -- on to the next element; the entry is not waited for
-      leaf_turn : {after : Writer} (v : code.Waiting) → has_body (role_of (element_at st at).element) ≡ false → Wrote (opening text words (element_at st at)) now after
-          → Turn first start after (set ws depth v) (element_at st at).next depth (left_size ws at depth)
+      pub leaf_turn : {after : Writer} → has_body (role_of (element_at st at).element) ≡ false → Wrote (opening text words (element_at st at)) now after
+          → Turn first start after ws (element_at st at).next depth (left_size ws at depth)
       unfolding body_size body_forms write_form
-      leaf_turn {after} v f w = go s.here refl s.chain
+      leaf_turn {after} f w = go s.here refl s.chain
         where
           go : (b : Body) → s.here ≡ b → Chain text words st s.before at s.last s.lo s.hi b
-              → Turn first start after (set ws depth v) (element_at st at).next depth (left_size ws at depth)
+              → Turn first start after ws (element_at st at).next depth (left_size ws at depth)
           go end e c = absurd (some c.0)
           go (then (block p k h b x) r) e c = absurd (clash (sym (ap has_body c.4.3.is.role) ∙ f))
           go (then (wrap p k b) r) e c = absurd (clash (sym (ap has_body c.4.0.is.role) ∙ f))
@@ -403,9 +403,9 @@ module _ (text : Bytes) (words : List ℕ) (st : List Element) where
                 low = omega (arith, s.low, c.1, c.2);
                 near = s.near;
                 contexts = s.contexts;
-                stack = stack_same ws (set ws depth v) s.hi s.contexts (λ i j. get_or-set_other ws depth i v no_waiting (λ t. omega (arith, s.deep))) s.stack;
+                stack = s.stack;
                 deep = s.deep;
-                long = length-set ws depth v ∙ s.long;
+                long = s.long;
                 whole = onward f w;
               }) (omega (arith, left_size_lem s, z))
 
@@ -455,7 +455,7 @@ module _ (text : Bytes) (words : List ℕ) (st : List Element) where
               whole = onward f w;
             }) (omega (arith, left_size_lem s))
 
-        block_turn : has_body (role_of (element_at st at).element) ≡ true
+        pub block_turn : has_body (role_of (element_at st at).element) ≡ true
             → Turn first start after (set ws depth (waits at false)) (element_at st at).template (depth + 1) (left_size ws at depth)
         unfolding body_size body_forms write_form tail
         block_turn f = go s.here refl s.chain
@@ -473,16 +473,6 @@ module _ (text : Bytes) (words : List ℕ) (st : List Element) where
                 (ap (λ b. body_bytes b ++ tail s.contexts) e ∙ ap (λ a. (a ++ body_bytes r) ++ tail s.contexts) (wrap_node c.4.0 b) ∙ split (opening text words (element_at st at)) (body_bytes b) (ascii "]\n") (write_forms (else_forms no_else)) (body_bytes r) (tail s.contexts))
                 (let z = ap body_size e in omega arith) c.1 c.2 (omega arith) c.3 c.4.2.1 c.4.1 c.5
 
-        -- either way
-        pub element_turn : let more = has_body (role_of (element_at st at).element) in
-            Turn first start after (set ws depth (waits at false)) (link_inside (element_at st at) more) (deeper depth more) (left_size ws at depth)
-        element_turn = go (has_body (role_of (element_at st at).element)) refl
-          where
-            go : (more : Bool) → has_body (role_of (element_at st at).element) ≡ more
-                → Turn first start after (set ws depth (waits at false)) (link_inside (element_at st at) more) (deeper depth more) (left_size ws at depth)
-            go true f = block_turn f
-            go false f = leaf_turn (waits at false) f w
-
     -- the block that waits, where a body ended
     module _ (over : at ≡ 0) (some : depth ≡ 0 → ⊥) where
       pub entry_near : (depth - 1 < length st) × ((get_or ws (depth - 1) no_waiting).block < length st)
@@ -497,7 +487,7 @@ module _ (text : Bytes) (words : List ℕ) (st : List Element) where
 
       -- the entry on top
       module _ {after : Writer} where
-        else_turn : ((element_at st (get_or ws (depth - 1) no_waiting).block).inverted && not (get_or ws (depth - 1) no_waiting).inverse) ≡ true
+        pub else_turn : ((element_at st (get_or ws (depth - 1) no_waiting).block).inverted && not (get_or ws (depth - 1) no_waiting).inverse) ≡ true
             → Wrote (ascii "]\n[else\n") now after
             → Turn first start after (set ws (depth - 1) (waits (get_or ws (depth - 1) no_waiting).block true))
             (element_at st (get_or ws (depth - 1) no_waiting).block).inverse (depth - 1 + 1) (left_size ws at depth)
@@ -554,14 +544,14 @@ module _ (text : Bytes) (words : List ℕ) (st : List Element) where
                   whole = onward b w;
                 }) (omega (arith, left_size_lem s))
 
-        close_turn : (v : code.Waiting) → ((element_at st (get_or ws (depth - 1) no_waiting).block).inverted && not (get_or ws (depth - 1) no_waiting).inverse) ≡ false
+        pub close_turn : ((element_at st (get_or ws (depth - 1) no_waiting).block).inverted && not (get_or ws (depth - 1) no_waiting).inverse) ≡ false
             → Wrote (ascii "]\n]\n") now after
-            → Turn first start after (set ws (depth - 1) v) (element_at st (get_or ws (depth - 1) no_waiting).block).next (depth - 1) (left_size ws at depth)
+            → Turn first start after ws (element_at st (get_or ws (depth - 1) no_waiting).block).next (depth - 1) (left_size ws at depth)
         unfolding body_size stack_size body_forms write_form write_head write_fields tail
-        close_turn v f w = go s.contexts refl s.deep s.stack
+        close_turn f w = go s.contexts refl s.deep s.stack
           where
             go : (cs : List Context) → s.contexts ≡ cs → length cs ≡ depth → Stack ws s.hi cs
-                → Turn first start after (set ws (depth - 1) v) (element_at st (get_or ws (depth - 1) no_waiting).block).next (depth - 1) (left_size ws at depth)
+                → Turn first start after ws (element_at st (get_or ws (depth - 1) no_waiting).block).next (depth - 1) (left_size ws at depth)
             go [] e d t = absurd (some (sym d))
             go (context z hi x r ∷ cs) e d t =
                 let i : length cs ≡ depth - 1 = omega arith in
@@ -585,20 +575,8 @@ module _ (text : Bytes) (words : List ℕ) (st : List Element) where
                   low = omega (arith, a.deep, a.order);
                   near = a.near;
                   contexts = cs;
-                  stack = stack_same ws (set ws (depth - 1) v) hi cs (λ j k. get_or-set_other ws (depth - 1) j v no_waiting (λ t. omega arith)) t.1;
+                  stack = t.1;
                   deep = i;
-                  long = length-set ws (depth - 1) v ∙ s.long;
+                  long = s.long;
                   whole = onward b w;
                 }) (omega (arith, left_size_lem s))
-
-        -- either way
-        pub back_turn : let u = get_or ws (depth - 1) no_waiting in let more = (element_at st u.block).inverted && not u.inverse in
-            Wrote (body_end more) now after
-            → Turn first start after (set ws (depth - 1) (waits u.block true)) (link_behind (element_at st u.block) more) (deeper (depth - 1) more) (left_size ws at depth)
-        back_turn = go ((element_at st (get_or ws (depth - 1) no_waiting).block).inverted && not (get_or ws (depth - 1) no_waiting).inverse) refl
-          where
-            go : let u = get_or ws (depth - 1) no_waiting in (more : Bool) → ((element_at st u.block).inverted && not u.inverse) ≡ more
-                → Wrote (body_end more) now after
-                → Turn first start after (set ws (depth - 1) (waits u.block true)) (link_behind (element_at st u.block) more) (deeper (depth - 1) more) (left_size ws at depth)
-            go true f w = else_turn f w
-            go false f w = close_turn (waits (get_or ws (depth - 1) no_waiting).block true) f w

@@ -8,7 +8,7 @@ ghost use Rattle.listing.specs.Listing.{bit, place_field, indent_field, item_for
 ghost use Rattle.listing.specs.Children.{helper_children};
 ghost use Rattle.listing.specs.Wrote.{Wrote};
 ghost use Rattle.template.specs.Element.{place_means, link_of, raw_means, comment_means, indent_means, head_at, Good, RawGood, Sound};
-ghost use Rattle.template.specs.Opening.{block_opening, decorated_bytes, opening, waits, body_end, deeper, link_inside, link_behind};
+ghost use Rattle.template.specs.Opening.{block_opening, decorated_bytes, opening, waits, body_end};
 
 use crate::element::{
     Comment, DecoratorTemplate, Element, HelperTemplate, RawString, TemplateElement,
@@ -63,6 +63,7 @@ fn write_place(w: &mut Writer, p: Place)
 }
 
 // c or i, behind a space.
+// Stays: beside `write_end`, since the two share one test and write other texts.
 fn write_bit(w: &mut Writer, b: bool)
     ensures { Wrote (ascii " " ++ write_field (bit b)) w.old w.new }
 {
@@ -97,6 +98,7 @@ fn write_indent(w: &mut Writer, text: &[u8], d: DecoratorTemplate)
     w.write_quoted(blanks);
 }
 
+// Stays: `text` and `words` apart, here and below, as listing's writers and the readers take them.
 fn write_text(w: &mut Writer, text: &[u8], words: &[u32], place: Place, r: RawString)
     requires { Good text.now words.now × RawGood text.now words.now r }
     ensures { Wrote (write_form (item_form (place_field (place_means place)) (Tree.text (raw_means text.now words.now r)))) w.old w.new }
@@ -119,6 +121,7 @@ fn write_comment(w: &mut Writer, text: &[u8], place: Place, c: Comment)
 }
 
 // An expression, from its word.
+// Stays: beside `write_decorated`, which writes two fields more and other children.
 fn write_expression(
     w: &mut Writer,
     text: &[u8],
@@ -156,7 +159,7 @@ fn write_block(
     w.put_bytes(b"[body\n");
 }
 
-// A decorator or a partial, from its word to its end or its body.
+// A decorator or a partial, from its word up to its end or its body.
 fn write_decorated(
     w: &mut Writer,
     text: &[u8],
@@ -164,9 +167,8 @@ fn write_decorated(
     word: &[u8],
     place: Place,
     d: DecoratorTemplate,
-    end: &[u8],
 )
-    ensures { Wrote (word.now ++ (decorated_bytes text.now words.now (place_means place) d ++ end.now)) w.old w.new }
+    ensures { Wrote (word.now ++ decorated_bytes text.now words.now (place_means place) d) w.old w.new }
 {
     w.put_bytes(word);
     write_place(w, place);
@@ -174,7 +176,6 @@ fn write_decorated(
     write_indent(w, text, d);
     w.put_bytes(b"\n");
     w.write_decorator(text, words, link_of(d.from, d.limit));
-    w.put_bytes(end);
 }
 
 // An element up to its body, if it has one. What is written is short, so that no listing is too long to be
@@ -192,16 +193,20 @@ pub(crate) fn write_element(w: &mut Writer, text: &[u8], words: &[u32], e: Eleme
         TemplateElement::HtmlExpression(h) => write_expression(w, text, words, b"[html ", p, h),
         TemplateElement::HelperBlock(h) => write_block(w, text, words, p, e.chain, h),
         TemplateElement::DecoratorExpression(d) => {
-            write_decorated(w, text, words, b"[decor ", p, d, b"]\n")
+            write_decorated(w, text, words, b"[decor ", p, d);
+            w.put_bytes(b"]\n");
         }
         TemplateElement::PartialExpression(d) => {
-            write_decorated(w, text, words, b"[partial ", p, d, b"]\n")
+            write_decorated(w, text, words, b"[partial ", p, d);
+            w.put_bytes(b"]\n");
         }
         TemplateElement::DecoratorBlock(d) => {
-            write_decorated(w, text, words, b"[decor-block ", p, d, b"[body\n")
+            write_decorated(w, text, words, b"[decor-block ", p, d);
+            w.put_bytes(b"[body\n");
         }
         TemplateElement::PartialBlock(d) => {
-            write_decorated(w, text, words, b"[partial-block ", p, d, b"[body\n")
+            write_decorated(w, text, words, b"[partial-block ", p, d);
+            w.put_bytes(b"[body\n");
         }
     }
 }
@@ -221,26 +226,4 @@ pub(crate) fn write_end(w: &mut Writer, more: bool)
         return w.put_bytes(b"]\n[else\n");
     }
     w.put_bytes(b"]\n]\n");
-}
-
-// How many blocks wait, when one more does or not.
-pub(crate) fn deeper(depth: usize, more: bool) -> usize
-    requires { depth < 8193 }
-    ensures { result ≡ deeper depth more }
-{
-    if more { depth + 1 } else { depth }
-}
-
-// What comes after an element's opening: its body, if it has one.
-pub(crate) fn link_inside(e: Element, more: bool) -> usize
-    ensures { result ≡ link_inside e more }
-{
-    if more { e.template } else { e.next }
-}
-
-// What comes after a body: the block's else, if that is still to be listed.
-pub(crate) fn link_behind(e: Element, more: bool) -> usize
-    ensures { result ≡ link_behind e more }
-{
-    if more { e.inverse } else { e.next }
 }

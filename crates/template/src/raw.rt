@@ -67,6 +67,8 @@ fn from_start(c: Cut, start: usize) -> Cut
 }
 
 // How many bytes are left of a piece whose front is trimmed.
+// Stays: `white`, here and below, is the flag that the specification's `start_trim` and `end_trim` take. A function passed by name
+// would need a clause that says which of their two cases it is.
 fn front_left(piece: &[u8], white: bool) -> usize
     ensures { result ≡ length (start_trim white piece.now) }
 {
@@ -78,11 +80,13 @@ fn front_left(piece: &[u8], white: bool) -> usize
 }
 
 // The front trimmed of White_Space, or of blanks.
+// Stays: `CutGood`, here and below, is of a text and words, which a `Cut` lacks, so that no type of its own can say it.
 fn trim_front(text: &[u8], words: &[u32], cut: Cut, white: bool) -> Cut
     requires { CutGood text.now words.now cut }
     ensures { CutIs text.now words.now (start_trim white (cut_means text.now words.now cut)) result }
 {
     let mut c = cut;
+    // Stays: a `loop`, here and below, since a turn goes on to the next piece of the text and counts no index.
     loop {
         let start = c.start;
         let end = piece_end(words, c);

@@ -11,5 +11,4 @@ pub returns : goal.returns
 unfolding decorated_bytes
 returns c =
     let w = ap (λ z. write_forms (decorator_children c.args.text.now c.args.words.now z)) (sym c.link_of.ensures) in
-    let d = wrote_then c.write_place.ensures (wrote_then c.write_bit.ensures (wrote_then c.write_indent.ensures (wrote_then c.put_bytes-2.ensures (elements.bytes_are w c.write_decorator.ensures)))) in
-    wrote_then c.put_bytes.ensures (wrote_then d c.put_bytes-3.ensures)
+    wrote_then c.put_bytes.ensures (wrote_then c.write_place.ensures (wrote_then c.write_bit.ensures (wrote_then c.write_indent.ensures (wrote_then c.put_bytes-2.ensures (elements.bytes_are w c.write_decorator.ensures)))))

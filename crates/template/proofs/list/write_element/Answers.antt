@@ -42,19 +42,19 @@ returns-in-HelperBlock c =
 pub returns-in-DecoratorExpression : goal.returns-in-DecoratorExpression
 returns-in-DecoratorExpression c =
     let args = c.args in
-    (elements.decor_written args.text.now args.words.now args.e c.in-DecoratorExpression.is c.write_decorated.ensures, short.opening_short _ _ c.requires.0 args.e (short.place_small args.e _ c.well_formed.1.1.1.0))
+    (elements.decor_written args.text.now args.words.now args.e c.in-DecoratorExpression.is c.write_decorated.ensures c.put_bytes.ensures, short.opening_short _ _ c.requires.0 args.e (short.place_small args.e _ c.well_formed.1.1.1.0))
 
 pub returns-in-PartialExpression : goal.returns-in-PartialExpression
 returns-in-PartialExpression c =
     let args = c.args in
-    (elements.partial_written args.text.now args.words.now args.e c.in-PartialExpression.is c.write_decorated-in-PartialExpression.ensures, short.opening_short _ _ c.requires.0 args.e (short.place_small args.e _ c.well_formed.1.1.1.0))
+    (elements.partial_written args.text.now args.words.now args.e c.in-PartialExpression.is c.write_decorated-in-PartialExpression.ensures c.put_bytes-in-PartialExpression.ensures, short.opening_short _ _ c.requires.0 args.e (short.place_small args.e _ c.well_formed.1.1.1.0))
 
 pub returns-in-DecoratorBlock : goal.returns-in-DecoratorBlock
 returns-in-DecoratorBlock c =
     let args = c.args in
-    (elements.decor_block_written args.text.now args.words.now args.e c.in-DecoratorBlock.is c.write_decorated-in-DecoratorBlock.ensures, short.opening_short _ _ c.requires.0 args.e (short.place_small args.e _ c.well_formed.1.1.1.0))
+    (elements.decor_block_written args.text.now args.words.now args.e c.in-DecoratorBlock.is c.write_decorated-in-DecoratorBlock.ensures c.put_bytes-in-DecoratorBlock.ensures, short.opening_short _ _ c.requires.0 args.e (short.place_small args.e _ c.well_formed.1.1.1.0))
 
 pub returns-in-PartialBlock : goal.returns-in-PartialBlock
 returns-in-PartialBlock c =
     let args = c.args in
-    (elements.partial_block_written args.text.now args.words.now args.e c.in-PartialBlock.is c.write_decorated-in-PartialBlock.ensures, short.opening_short _ _ c.requires.0 args.e (short.place_small args.e _ c.well_formed.1.1.1.0))
+    (elements.partial_block_written args.text.now args.words.now args.e c.in-PartialBlock.is c.write_decorated-in-PartialBlock.ensures c.put_bytes-in-PartialBlock.ensures, short.opening_short _ _ c.requires.0 args.e (short.place_small args.e _ c.well_formed.1.1.1.0))
