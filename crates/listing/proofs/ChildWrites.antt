@@ -1,8 +1,7 @@
 -- The bytes of an expression's children, piece by piece as the writers store them: a call, and the block parameters behind it. Assumes nothing.
-use Prim.Native.Nat.{ℕ, ◌≤◌}
+use Prim.Native.Nat.{ℕ}
 use mathlib.Core.Path.{◌≡◌, refl, sym, ap, subst, ◌∙◌}
 use mathlib.Core.List.{List, [], ◌∷◌, ◌++◌, append-nil, append_assoc}
-use lib.ListN.{length}
 use Rattle.support.specs.Bytes.{Bytes, ascii}
 use Rattle.expression.specs.Expression.{Call, call, Keys, no_keys, key, Expression, no_block_param, single, pair}
 use Rattle.expression.specs.Expression as Block
@@ -16,8 +15,9 @@ use Rattle.listing.specs.Quoted.{quoted, escaped}
 use Rattle.listing.specs.Form.{Word, quote, line, write_field, write_fields, write_head, Forms, nil, write_form, write_forms}
 use Rattle.listing.specs.Listing.{param_form, call_forms, key_forms, block_param_forms}
 use Rattle.listing.specs.Children.{block_or, expression_at, decorator_children, helper_children}
-use Rattle.listing.specs.Written.{largest, Written}
-use Rattle.listing.proofs.Writes.{written_none, written_then}
+use Rattle.listing.specs.Wrote.{Wrote}
+use Rattle.listing.specs.declared.writer.Writer.{Writer}
+use Rattle.listing.proofs.Writers.{wrote_none, wrote_then}
 use Rattle.listing.proofs.ParamWrites.{params_join}
 use Rattle.listing.proofs.PathWrites.{quote_head}
 
@@ -38,18 +38,18 @@ unfolding write_form
 pair_bytes a b = append-nil (write_form (line Word.as_params (quote a ∷ quote b ∷ []))) ∙ pair_line a b ∙ simp (append_assoc)
 
 -- the block parameters told by their case
-module _ {l m : Bytes} {at r : ℕ} (text : Bytes) {b : Option BlockParam} where
-  pub block_none : b ≡ None → Written (write_forms nil) l at m r → Written (write_forms (block_param_forms (block_means text b) nil)) l at m r
-  block_none e w = subst (λ z. Written (write_forms (block_param_forms (block_means text z) nil)) l at m r) (sym e) w
+module _ {f g : Writer} (text : Bytes) {b : Option BlockParam} where
+  pub block_none : b ≡ None → Wrote (write_forms nil) f g → Wrote (write_forms (block_param_forms (block_means text b) nil)) f g
+  block_none e w = subst (λ z. Wrote (write_forms (block_param_forms (block_means text z) nil)) f g) (sym e) w
 
   pub block_some : {x y : BlockParam} → b ≡ Some x → x ≡ y
-      → Written (write_forms (block_param_forms (block_param_means text y) nil)) l at m r
-      → Written (write_forms (block_param_forms (block_means text b) nil)) l at m r
-  block_some e f w = subst (λ z. Written (write_forms (block_param_forms (block_means text z) nil)) l at m r) (sym (e ∙ ap Some f)) w
+      → Wrote (write_forms (block_param_forms (block_param_means text y) nil)) f g
+      → Wrote (write_forms (block_param_forms (block_means text b) nil)) f g
+  block_some e i w = subst (λ z. Wrote (write_forms (block_param_forms (block_means text z) nil)) f g) (sym (e ∙ ap Some i)) w
 
-pub no_block : (l : Bytes) (at : ℕ) → at ≤ largest → Written (write_forms nil) l at l at
+pub no_block : (a : Writer) → Wrote (write_forms nil) a a
 unfolding write_form
-no_block l at h = written_none l at h
+no_block a = wrote_none a
 
 -- ---- a call and what stands behind it
 
@@ -72,27 +72,27 @@ block_join no_block_param rest = refl
 block_join (single a) rest = simp (append-nil, append_assoc)
 block_join (pair a b) rest = simp (append-nil, append_assoc)
 
-module _ (text : Bytes) (words : List ℕ) (s : Subexpression) {l m : Bytes} {at r : ℕ} where
-  pub decorator_empty : {e : Fault} → expression_at text words s ≡ failed e → Written (ascii "[name \"\"]\n") l at m r
-      → Written (write_forms (decorator_children text words s)) l at m r
+module _ (text : Bytes) (words : List ℕ) (s : Subexpression) {a b : Writer} where
+  pub decorator_empty : {e : Fault} → expression_at text words s ≡ failed e → Wrote (ascii "[name \"\"]\n") a b
+      → Wrote (write_forms (decorator_children text words s)) a b
   unfolding decorator_children param_form write_form write_head write_fields write_field quoted escaped
-  decorator_empty e w = subst (λ o. Written (write_forms (call_forms (call_or o) nil)) l at m r) (sym e) w
+  decorator_empty e w = subst (λ o. Wrote (write_forms (call_forms (call_or o) nil)) a b) (sym e) w
 
-  pub helper_empty : {e : Fault} → expression_at text words s ≡ failed e → Written (ascii "[name \"\"]\n") l at m r
-      → Written (write_forms (helper_children text words s)) l at m r
+  pub helper_empty : {e : Fault} → expression_at text words s ≡ failed e → Wrote (ascii "[name \"\"]\n") a b
+      → Wrote (write_forms (helper_children text words s)) a b
   unfolding helper_children param_form write_form write_head write_fields write_field quoted escaped
-  helper_empty e w = subst (λ o. Written (write_forms (call_forms (call_or o) (block_param_forms (block_or o) nil))) l at m r) (sym e) w
+  helper_empty e w = subst (λ o. Wrote (write_forms (call_forms (call_or o) (block_param_forms (block_or o) nil))) a b) (sym e) w
 
   module _ {x : ExpressionSpec} {low : ℕ} (i : ExpressionIs text words (expression_at text words s) low (Ok x)) where
-    pub decorator_written : Written (write_forms (call_forms (call_means text words x.name x.parts) nil)) l at m r
-        → Written (write_forms (decorator_children text words s)) l at m r
+    pub decorator_written : Wrote (write_forms (call_forms (call_means text words x.name x.parts) nil)) a b
+        → Wrote (write_forms (decorator_children text words s)) a b
     unfolding decorator_children expression_means
-    decorator_written w = subst (λ o. Written (write_forms (call_forms (call_or o) nil)) l at m r) (sym i.reads) w
+    decorator_written w = subst (λ o. Wrote (write_forms (call_forms (call_or o) nil)) a b) (sym i.reads) w
 
-    pub helper_written : {n : Bytes} {p : ℕ} → length l ≤ largest → Written (write_forms (call_forms (call_means text words x.name x.parts) nil)) l at n p
-        → Written (write_forms (block_param_forms (block_means text x.block_param) nil)) n p m r
-        → Written (write_forms (helper_children text words s)) l at m r
+    pub helper_written : {c : Writer} → Wrote (write_forms (call_forms (call_means text words x.name x.parts) nil)) a c
+        → Wrote (write_forms (block_param_forms (block_means text x.block_param) nil)) c b
+        → Wrote (write_forms (helper_children text words s)) a b
     unfolding helper_children expression_means
-    helper_written h a b =
-        subst (λ o. Written (write_forms (call_forms (call_or o) (block_param_forms (block_or o) nil))) l at m r) (sym i.reads)
-        (rw (call_join (call_means text words x.name x.parts) (block_param_forms (block_means text x.block_param) nil)) (written_then h a b))
+    helper_written f g =
+        subst (λ o. Wrote (write_forms (call_forms (call_or o) (block_param_forms (block_or o) nil))) a b) (sym i.reads)
+        (rw (call_join (call_means text words x.name x.parts) (block_param_forms (block_means text x.block_param) nil)) (wrote_then f g))

@@ -2,7 +2,7 @@
 use Prim.Native.Nat.{ℕ, ◌+◌, ◌-◌, ◌≤◌, ◌<◌}
 use native.Mathlib.Omega.{arith}
 use native.Mathlib.Numerals.{add-one}
-use mathlib.Core.Path.{◌≡◌, refl, sym, ap, subst, ◌∙◌}
+use mathlib.Core.Path.{◌≡◌, sym, ap, subst, ◌∙◌}
 use mathlib.Core.List.{List}
 use mathlib.Core.Bool.{false}
 use lib.ListN.{length, get_or, take, drop, drop_of_length-le}
@@ -21,10 +21,11 @@ use Rattle.expression.specs.declared.parameter.Fault.{Fault}
 use Rattle.expression.proofs.Lists.{not_failed, keys_all_lem}
 use Rattle.listing.specs.Form.{nil, write_form, write_forms}
 use Rattle.listing.specs.Listing.{param_form, key_forms}
-use Rattle.listing.specs.Written.{largest, Written}
+use Rattle.listing.specs.Wrote.{Wrote}
+use Rattle.listing.specs.declared.writer.Writer.{Writer}
 use Rattle.listing.specs.Held.{value_of, entry_value, EntryRead, All, keys_by, held_keys, KeysHeld}
 use Rattle.listing.proofs.Size.{param_size, keys_size}
-use Rattle.listing.proofs.Writes.{written_none, written_then, written_length}
+use Rattle.listing.proofs.Writers.{Onward, onward_start, onward_as, onward_next, onward_end}
 use Rattle.listing.proofs.Entries.{all_at}
 use Rattle.listing.proofs.Cells.{from_zero}
 use Rattle.listing.proofs.HeldKeys.{hash_key}
@@ -35,14 +36,12 @@ abbrev bytes_of : Bytes → List ℕ → ℕ → List ℕ → Bytes
 bytes_of text words d es = write_forms (key_forms (held_keys text words d es) nil)
 
 -- the entries from i on are left
-pub record HeldLeft (text : Bytes) (words : List ℕ) (d : ℕ) (es : List ℕ) (l : Bytes) (at i : ℕ) (m : Bytes) (q : ℕ) : Type 0 where
+pub record HeldLeft (text : Bytes) (words : List ℕ) (d : ℕ) (es : List ℕ) (a : Writer) (i : ℕ) (b : Writer) : Type 0 where
   pub fits : keys_size (held_keys text words d (drop i es)) ≤ keys_size (held_keys text words d es)
-  pub whole : (k : Bytes) (r : ℕ) → Written (bytes_of text words d (drop i es)) m q k r → Written (bytes_of text words d es) l at k r
-  pub same : length m ≡ length l
-  pub position : q ≤ largest
+  pub onward : Onward (bytes_of text words d es) (bytes_of text words d (drop i es)) a b
 
-pub held_begins : (text : Bytes) (words : List ℕ) (d : ℕ) (es : List ℕ) (l : Bytes) (at : ℕ) → at ≤ largest → HeldLeft text words d es l at 0 l at
-held_begins text words d es l at h = record { fits = omega arith; whole = λ k r w. w; same = refl; position = h }
+pub held_begins : (text : Bytes) (words : List ℕ) (d : ℕ) (es : List ℕ) (a : Writer) → HeldLeft text words d es a 0 a
+held_begins text words d es a = record { fits = omega arith; onward = onward_start _ a }
 
 -- an entry that can be read is read
 pub entry_read : (text : Bytes) (words : List ℕ) (d : ℕ) (es : List ℕ) (i : ℕ) {r : Result (Hash × ℕ) Fault} {f : Fault} → All (EntryRead text words d) es → i < length es
@@ -51,36 +50,33 @@ entry_read text words d es i a l e h =
     let o = all_at (EntryRead text words d) es i a l in
     not_failed (record { rest = o.rest; reads = o.reads }) (subst (λ z. HashIs false text words d (get_or es i 0) z) e h).reads
 
-module _ {text : Bytes} {words : List ℕ} {d : ℕ} {es : List ℕ} {l m : Bytes} {at i q : ℕ} (g : HeldLeft text words d es l at i m q) where
-  module _ {h : Hash} {n : ℕ} {r : Result (Hash × ℕ) Fault} (b : i < length es) (e : r ≡ Ok (h, n)) (u : HashIs false text words d (get_or es i 0) r) where
+module _ {text : Bytes} {words : List ℕ} {d : ℕ} {es : List ℕ} {a b : Writer} {i : ℕ} (g : HeldLeft text words d es a i b) where
+  module _ {h : Hash} {n : ℕ} {r : Result (Hash × ℕ) Fault} (j : i < length es) (e : r ≡ Ok (h, n)) (u : HashIs false text words d (get_or es i 0) r) where
     next : held_keys text words d (drop i es) ≡ key (name_means text h.key) (param_means text words h.value) (held_keys text words d (drop (i + 1) es))
     unfolding keys_by
     next =
         let o = (subst (λ z. HashIs false text words d (get_or es i 0) z) e u).reads in
         let x : ℕ = get_or es i 0 in
         let rest : Keys = held_keys text words d (drop (i + 1) es) in
-        rw (add-one i) (ap (held_keys text words d) (drop-cons es i 0 b))
+        rw (add-one i) (ap (held_keys text words d) (drop-cons es i 0 j))
         ∙ ap (λ z. key z (entry_value text words d x) rest) (hash_key text d (spans_from words x) o)
         ∙ ap (λ z. key (name_means text h.key) z rest) (ap value_of o)
 
     pub held_less : param_size (param_means text words h.value) < keys_size (held_keys text words d es)
     held_less = let f = ap keys_size next in omega (arith, g.fits)
 
-    pub held_on : {k : Bytes} {s : ℕ} → length l ≤ largest
-        → Written (write_forms (key_forms (key (name_means text h.key) (param_means text words h.value) no_keys) nil)) m q k s
-        → HeldLeft text words d es l at (i + 1) k s
-    held_on z w =
+    pub held_on : {c : Writer} → Wrote (write_forms (key_forms (key (name_means text h.key) (param_means text words h.value) no_keys) nil)) b c
+        → HeldLeft text words d es a (i + 1) c
+    held_on w =
         let f = ap keys_size next in
         record {
           fits = omega (arith, g.fits);
-          whole = λ x r v. g.whole x r (subst (λ o. Written (write_forms (key_forms o nil)) m q x r) (sym next) (rw (keys_join _ _ _) (written_then (omega (arith, g.same)) w v)));
-          same = written_length w ∙ g.same;
-          position = omega (arith, w.next);
+          onward = onward_next (onward_as (ap (λ o. write_forms (key_forms o nil)) next ∙ keys_join _ _ _) g.onward) w;
         }
 
-  pub held_done : length es ≤ i → Written (bytes_of text words d es) l at m q
+  pub held_done : length es ≤ i → Wrote (bytes_of text words d es) a b
   unfolding keys_by param_form write_form
-  held_done h = g.whole m q (subst (λ z. Written (bytes_of text words d z) m q m q) (sym (drop_of_length-le es h)) (written_none m q g.position))
+  held_done h = onward_end (onward_as (ap (bytes_of text words d) (drop_of_length-le es h)) g.onward)
 
 -- ---- the keys that are held are all keys
 
@@ -96,6 +92,6 @@ module _ {text : Bytes} {words : List ℕ} {p : Parts} {cells : List ℕ} {n : �
       ap (λ k. keys_size (held_keys text words p.depth (take k cells))) (sym (from_zero n))
       ∙ sym (ap (λ o. keys_size (read_or no_keys o)) (keys_all_lem text words p h.keys).reads)
 
-  pub held_written : {l m : Bytes} {at r : ℕ} → Written (bytes_of text words p.depth (take (n - 0) cells)) l at m r
-      → Written (write_forms (key_forms (read_or no_keys (keys_read text words p)) nil)) l at m r
-  held_written {l} {m} {at} {r} w = subst (λ z. Written (write_forms (key_forms z nil)) l at m r) (sym same) w
+  pub held_written : {a b : Writer} → Wrote (bytes_of text words p.depth (take (n - 0) cells)) a b
+      → Wrote (write_forms (key_forms (read_or no_keys (keys_read text words p)) nil)) a b
+  held_written {a} {b} w = subst (λ z. Wrote (write_forms (key_forms z nil)) a b) (sym same) w

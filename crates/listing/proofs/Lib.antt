@@ -4,6 +4,7 @@ pub mod FormInjective
 pub mod TreeInjective
 pub mod ReadingInjective
 pub mod Writes
+pub mod Writers
 pub mod PathWrites
 pub mod RequoteWrites
 pub mod RequoteCounts

@@ -5,8 +5,7 @@ use native.Mathlib.Omega.{arith}
 use mathlib.Core.Path.{◌≡◌, refl, sym, ap, subst, ◌∙◌}
 use mathlib.Core.List.{List, [], ◌++◌, append-nil, append_assoc}
 use mathlib.Core.Bool.{true, false}
-use lib.ListN.{length}
-use Rattle.support.specs.Bytes.{Bytes, ascii, part}
+use Rattle.support.specs.Bytes.{Bytes, ascii}
 use Rattle.json_path.specs.Span.{spans_from}
 use Rattle.json_path.specs.Answers.{name_means}
 use Rattle.literal.specs.Requote.{requoted}
@@ -26,10 +25,11 @@ use Rattle.json_path.specs.declared.path.Name as declared
 use Rattle.listing.specs.Quoted.{quoted, escaped}
 use Rattle.listing.specs.Form.{Word, write_field, write_head, write_fields, Forms, nil, write_form, write_forms}
 use Rattle.listing.specs.Listing.{param_form, call_forms, param_forms, key_forms}
-use Rattle.listing.specs.Written.{largest, Written}
+use Rattle.listing.specs.Wrote.{Wrote}
+use Rattle.listing.specs.declared.writer.Writer.{Writer}
 use Rattle.expression.proofs.Lists.{params_known, keys_known, call_known, params_next, params_end, keys_next, keys_end}
-use Rattle.listing.proofs.Writes.{written_none, written_then, written_length}
-use Rattle.listing.proofs.PathWrites.{quote_head, three}
+use Rattle.listing.proofs.Writers.{wrote_then, Onward, onward_start, onward_as, onward_next, onward_end}
+use Rattle.listing.proofs.PathWrites.{quote_head}
 use Rattle.listing.proofs.Size.{param_size, call_size, params_size, keys_size}
 
 -- ---- the bytes of a form
@@ -78,35 +78,34 @@ keys_join k v ks = key_bytes_lem k v ks ∙ ap (◌++ write_forms (key_forms ks 
 
 -- ---- a parameter told by its case
 
-pub param_is : {l m : Bytes} {at r : ℕ} (text : Bytes) (words : List ℕ) {g h : Parameter} → g ≡ h
-    → Written (write_form (param_form (param_means text words h))) l at m r
-    → Written (write_form (param_form (param_means text words g))) l at m r
-param_is {l} {m} {at} {r} text words e w = subst (λ z. Written (write_form (param_form (param_means text words z))) l at m r) (sym e) w
+pub param_is : {a b : Writer} (text : Bytes) (words : List ℕ) {g h : Parameter} → g ≡ h
+    → Wrote (write_form (param_form (param_means text words h))) a b
+    → Wrote (write_form (param_form (param_means text words g))) a b
+param_is {a} {b} text words e w = subst (λ z. Wrote (write_form (param_form (param_means text words z))) a b) (sym e) w
 
 -- the kept text, by whether it was rewritten
-module _ {l m : Bytes} {at r : ℕ} (text : Bytes) (i : Literal) where
-  pub kept_rewritten : {s : Bytes} → i.quoted ≡ true → s ≡ name_means text i.kept → Written (quoted (requoted s)) l at m r
-      → Written (quoted (literal_means text i)) l at m r
+module _ {a b : Writer} (text : Bytes) (i : Literal) where
+  pub kept_rewritten : {s : Bytes} → i.quoted ≡ true → s ≡ name_means text i.kept → Wrote (quoted (requoted s)) a b
+      → Wrote (quoted (literal_means text i)) a b
   kept_rewritten e f w = rw (e, sym f) w
 
-  pub kept_as_written : i.quoted ≡ false → Written (quoted (name_means text i.kept)) l at m r
-      → Written (quoted (literal_means text i)) l at m r
+  pub kept_as_written : i.quoted ≡ false → Wrote (quoted (name_means text i.kept)) a b
+      → Wrote (quoted (literal_means text i)) a b
   kept_as_written e w = rw e w
 
 -- a subexpression, from the call that its link gives
-pub sub_written : {text : Bytes} {words : List ℕ} {s : Subexpression} {x : ExpressionSpec} {l m n k : Bytes} {at p q r : ℕ} → Entered text words s x
-    → length l ≤ largest
-    → Written (ascii "[sub\n") l at m p → Written (write_forms (call_forms (call_means text words x.name x.parts) nil)) m p n q → Written (ascii "]\n") n q k r
-    → Written (write_form (param_form (param_means text words (Parameter.Subexpression s)))) l at k r
-sub_written {l = l} {k = k} {at = at} {r = r} i h a b c = subst (λ z. Written (write_form (param_form z)) l at k r) (sym i.means) (rw (sub_bytes _) (three h a b c))
+pub sub_written : {text : Bytes} {words : List ℕ} {s : Subexpression} {x : ExpressionSpec} {a b c d : Writer} → Entered text words s x
+    → Wrote (ascii "[sub\n") a b → Wrote (write_forms (call_forms (call_means text words x.name x.parts) nil)) b c → Wrote (ascii "]\n") c d
+    → Wrote (write_form (param_form (param_means text words (Parameter.Subexpression s)))) a d
+sub_written {a = a} {d = d} i f g j = subst (λ z. Wrote (write_form (param_form z)) a d) (sym i.means) (rw (sub_bytes _) (wrote_then f (wrote_then g j)))
 
 -- a link that cannot be read: an empty call
-pub sub_empty : (text : Bytes) (words : List ℕ) (s : Subexpression) {e : Fault} {l m : Bytes} {at r : ℕ}
+pub sub_empty : (text : Bytes) (words : List ℕ) (s : Subexpression) {e : Fault} {a b : Writer}
     → read_expression false text s.depth s.limit (spans_from words s.from) ≡ failed e
-    → Written (ascii "[sub\n[name \"\"]\n]\n") l at m r
-    → Written (write_form (param_form (param_means text words (Parameter.Subexpression s)))) l at m r
+    → Wrote (ascii "[sub\n[name \"\"]\n]\n") a b
+    → Wrote (write_form (param_form (param_means text words (Parameter.Subexpression s)))) a b
 unfolding param_means param_form write_form write_head write_fields write_field quoted escaped
-sub_empty text words s {l = l} {m = m} {at = at} {r = r} e w = subst (λ o. Written (write_form (param_form (subexpression (call_or o)))) l at m r) (sym e) w
+sub_empty text words s {a = a} {b = b} e w = subst (λ o. Wrote (write_form (param_form (subexpression (call_or o)))) a b) (sym e) w
 
 -- ---- sizes
 
@@ -131,18 +130,15 @@ sub_size i = ap param_size i.means
 
 -- ---- parameters
 
-pub record ParamsLeft (text : Bytes) (words : List ℕ) (p : Parts) (l : Bytes) (at : ℕ) (rest : Parts) (m : Bytes) (q : ℕ) : Type 0 where
+pub record ParamsLeft (text : Bytes) (words : List ℕ) (p : Parts) (a : Writer) (rest : Parts) (b : Writer) : Type 0 where
   pub params : Params
   pub reads : Reads (params_read text words rest) params
   pub fits : params_size params ≤ params_all text words p
-  pub whole : (k : Bytes) (r : ℕ) → Written (write_forms (param_forms params nil)) m q k r
-      → Written (write_forms (param_forms (read_or no_params (params_read text words p)) nil)) l at k r
-  pub same : length m ≡ length l
-  pub position : q ≤ largest
+  pub onward : Onward (write_forms (param_forms (read_or no_params (params_read text words p)) nil)) (write_forms (param_forms params nil)) a b
 
-pub params_begin : (text : Bytes) (words : List ℕ) (p : Parts) (l : Bytes) (at : ℕ) → at ≤ largest → Readable (parts_read false text words p)
-    → ParamsLeft text words p l at p l at
-params_begin text words p l at g h =
+pub params_begin : (text : Bytes) (words : List ℕ) (p : Parts) (a : Writer) → Readable (parts_read false text words p)
+    → ParamsLeft text words p a p a
+params_begin text words p a h =
     let k = params_known text words p h in
     let e : read_or no_params (params_read text words p) ≡ params_of h.value = ap (read_or no_params) k.reads in
     let f = ap params_size e in
@@ -150,50 +146,43 @@ params_begin text words p l at g h =
       params = params_of h.value;
       reads = k;
       fits = omega arith;
-      whole = λ m r w. subst (λ z. Written (write_forms (param_forms z nil)) l at m r) (sym e) w;
-      same = refl;
-      position = g;
+      onward = onward_as (ap (λ z. write_forms (param_forms z nil)) e) (onward_start _ a);
     }
 
-module _ {text : Bytes} {words : List ℕ} {p rest : Parts} {l m : Bytes} {at q : ℕ} (g : ParamsLeft text words p l at rest m q) where
+module _ {text : Bytes} {words : List ℕ} {p rest : Parts} {a b : Writer} (g : ParamsLeft text words p a rest b) where
   module _ {v : Parameter} {after : Parts} (i : ParamStepIs text words rest (Ok (Some (v, after)))) where
     pub params_less : param_size (param_means text words v) < params_all text words p
     params_less = let t = params_next g.reads i in let f = ap params_size t.same in omega (arith, g.fits)
 
-    pub params_on : {n : Bytes} {s : ℕ} → length l ≤ largest → Written (write_form (param_form (param_means text words v))) m q n s
-        → ParamsLeft text words p l at after n s
+    pub params_on : {c : Writer} → Wrote (write_form (param_form (param_means text words v))) b c
+        → ParamsLeft text words p a after c
     unfolding param_form write_form
-    params_on h w =
+    params_on w =
         let t = params_next g.reads i in
         let f = ap params_size t.same in
         record {
           params = t.value;
           reads = t.reads;
           fits = omega (arith, g.fits);
-          whole = λ k r u. g.whole k r (subst (λ z. Written (write_forms (param_forms z nil)) m q k r) (sym t.same) (written_then (omega (arith, g.same)) w u));
-          same = written_length w ∙ g.same;
-          position = omega (arith, w.next);
+          onward = onward_next (onward_as (ap (λ z. write_forms (param_forms z nil)) t.same) g.onward) w;
         }
 
   pub params_done : ParamStepIs text words rest (Ok None)
-      → Written (write_forms (param_forms (read_or no_params (params_read text words p)) nil)) l at m q
+      → Wrote (write_forms (param_forms (read_or no_params (params_read text words p)) nil)) a b
   unfolding param_form write_form
-  params_done i = g.whole m q (subst (λ z. Written (write_forms (param_forms z nil)) m q m q) (sym (params_end g.reads i)) (written_none m q g.position))
+  params_done i = onward_end (onward_as (ap (λ z. write_forms (param_forms z nil)) (params_end g.reads i)) g.onward)
 
 -- ---- keys
 
-pub record KeysLeft (text : Bytes) (words : List ℕ) (p : Parts) (l : Bytes) (at : ℕ) (b : Option declared.Name) (m : Bytes) (q : ℕ) : Type 0 where
+pub record KeysLeft (text : Bytes) (words : List ℕ) (p : Parts) (a : Writer) (k : Option declared.Name) (b : Writer) : Type 0 where
   pub keys : Keys
-  pub reads : Reads (keys_left text words p b) keys
+  pub reads : Reads (keys_left text words p k) keys
   pub fits : keys_size keys ≤ keys_all text words p None
-  pub whole : (k : Bytes) (r : ℕ) → Written (write_forms (key_forms keys nil)) m q k r
-      → Written (write_forms (key_forms (read_or no_keys (keys_read text words p)) nil)) l at k r
-  pub same : length m ≡ length l
-  pub position : q ≤ largest
+  pub onward : Onward (write_forms (key_forms (read_or no_keys (keys_read text words p)) nil)) (write_forms (key_forms keys nil)) a b
 
-pub keys_begin : (text : Bytes) (words : List ℕ) (p : Parts) (l : Bytes) (at : ℕ) → at ≤ largest → Readable (parts_read false text words p)
-    → KeysLeft text words p l at None l at
-keys_begin text words p l at g h =
+pub keys_begin : (text : Bytes) (words : List ℕ) (p : Parts) (a : Writer) → Readable (parts_read false text words p)
+    → KeysLeft text words p a None a
+keys_begin text words p a h =
     let k = keys_known text words p h in
     let e : read_or no_keys (keys_read text words p) ≡ keys_of h.value = ap (λ o. read_or no_keys (mapped keys_of o)) h.reads in
     let f = ap (λ o. keys_size (read_or no_keys o)) k.reads in
@@ -201,39 +190,34 @@ keys_begin text words p l at g h =
       keys = keys_of h.value;
       reads = k;
       fits = omega arith;
-      whole = λ m r w. subst (λ z. Written (write_forms (key_forms z nil)) l at m r) (sym e) w;
-      same = refl;
-      position = g;
+      onward = onward_as (ap (λ z. write_forms (key_forms z nil)) e) (onward_start _ a);
     }
 
-module _ {text : Bytes} {words : List ℕ} {p : Parts} {b : Option declared.Name} {l m : Bytes} {at q : ℕ} (g : KeysLeft text words p l at b m q) where
-  module _ {h : Hash} (i : KeyStepIs text words p b (Ok (Some h))) where
+module _ {text : Bytes} {words : List ℕ} {p : Parts} {k : Option declared.Name} {a b : Writer} (g : KeysLeft text words p a k b) where
+  module _ {h : Hash} (i : KeyStepIs text words p k (Ok (Some h))) where
     pub keys_less : param_size (param_means text words h.value) < keys_all text words p None
     keys_less = let t = keys_next g.reads i in let f = ap keys_size t.same in omega (arith, g.fits)
 
-    pub keys_fall : keys_all text words p (Some h.key) < keys_all text words p b
+    pub keys_fall : keys_all text words p (Some h.key) < keys_all text words p k
     keys_fall =
         let t = keys_next g.reads i in
         let f = ap keys_size t.same in
-        let a = ap (λ o. keys_size (read_or no_keys o)) g.reads.reads in
-        let c = ap (λ o. keys_size (read_or no_keys o)) t.reads.reads in
+        let l = ap (λ o. keys_size (read_or no_keys o)) g.reads.reads in
+        let m = ap (λ o. keys_size (read_or no_keys o)) t.reads.reads in
         omega arith
 
-    pub keys_on : {n : Bytes} {s : ℕ} → length l ≤ largest
-        → Written (write_forms (key_forms (key (name_means text h.key) (param_means text words h.value) no_keys) nil)) m q n s
-        → KeysLeft text words p l at (Some h.key) n s
-    keys_on z w =
+    pub keys_on : {c : Writer} → Wrote (write_forms (key_forms (key (name_means text h.key) (param_means text words h.value) no_keys) nil)) b c
+        → KeysLeft text words p a (Some h.key) c
+    keys_on w =
         let y = keys_next g.reads i in
         let f = ap keys_size y.same in
         record {
           keys = y.value;
           reads = y.reads;
           fits = omega (arith, g.fits);
-          whole = λ x r v. g.whole x r (subst (λ o. Written (write_forms (key_forms o nil)) m q x r) (sym y.same) (rw (keys_join _ _ _) (written_then (omega (arith, g.same)) w v)));
-          same = written_length w ∙ g.same;
-          position = omega (arith, w.next);
+          onward = onward_next (onward_as (ap (λ o. write_forms (key_forms o nil)) y.same ∙ keys_join _ _ _) g.onward) w;
         }
 
-  pub keys_done : KeyStepIs text words p b (Ok None) → Written (write_forms (key_forms (read_or no_keys (keys_read text words p)) nil)) l at m q
+  pub keys_done : KeyStepIs text words p k (Ok None) → Wrote (write_forms (key_forms (read_or no_keys (keys_read text words p)) nil)) a b
   unfolding param_form write_form
-  keys_done i = g.whole m q (subst (λ z. Written (write_forms (key_forms z nil)) m q m q) (sym (keys_end g.reads i)) (written_none m q g.position))
+  keys_done i = onward_end (onward_as (ap (λ z. write_forms (key_forms z nil)) (keys_end g.reads i)) g.onward)

@@ -6,6 +6,8 @@ use native.Mathlib.Numerals.{add-one}
 use mathlib.Core.Path.{◌≡◌, refl, sym, ap, subst, ◌∙◌}
 use mathlib.Core.List.{[], ◌∷◌, ◌++◌, append-nil, append_assoc}
 use mathlib.Core.Bool.{Bool, true, false}
+use mir.Val.{bool_byte}
+use Rattle.std.specs.Bool.{MatchBool}
 use lib.Dec.{leb, ltb, eqb}
 use lib.ListN.{length, get_or, take, drop, set, length-append, length-take, length-drop, take-append-drop}
 use lib.Seq.{drop-append-add, sets, paste, set_out, length-sets, take-suc, take_all}
@@ -15,7 +17,7 @@ use Rattle.std.proofs.lemmas.List.Edits.{sets-eq}
 use Rattle.std.proofs.lemmas.Slice.{put_mid-paste}
 use borrow.Author.Tests.{leb-true, leb-false, ltb-false, lt-ltb, le-ltb, ne_eqb, eqb-true, eqb-false}
 use Rattle.support.specs.Bytes.{Bytes, ascii, if}
-use Rattle.listing.specs.Quoted.{escape, escaped, quoted, digits, decimal}
+use Rattle.listing.specs.Quoted.{escape, escaped, digits, decimal}
 use Rattle.listing.specs.Written.{largest, onward, Written}
 use Rattle.listing.proofs.Lex.{digits_append}
 
@@ -86,29 +88,6 @@ pub escaped_append : (s t : Bytes) → escaped (s ++ t) ≡ escaped s ++ escaped
 unfolding escaped
 escaped_append [] t = refl
 escaped_append (c ∷ s) t = ap (escape c ++◌) (escaped_append s t) ∙ sym (append_assoc (escape c) (escaped s) (escaped t))
-
-pub escaped_more : {l m n : Bytes} {at p r : ℕ} (s : Bytes) (i : ℕ) → length l ≤ largest → i < length s → Written (escaped (take i s)) l at m p
-    → Written (escape (get_or s i 0)) m p n r
-    → Written (escaped (take (i + 1) s)) l at n r
-unfolding escaped
-escaped_more s i h k a b =
-    let b' = get_or s i 0 in
-    rw (add-one i, take-suc s i 0 k, escaped_append (take i s) (b' ∷ []), append-nil (escape b')) (written_then h a b)
-
-pub escaped_all : {l m : Bytes} {at p : ℕ} (s : Bytes) (i : ℕ) → length s ≤ i → Written (escaped (take i s)) l at m p → Written (escaped s) l at m p
-escaped_all s i h a = rw (take_all i s h) at a
-
--- the next bytes of a text, written as quoted text has them; so a run that has no escape, and one byte
-module _ {l m n s rest : Bytes} {at p r : ℕ} (h : length l ≤ largest) (a : Passed (λ x. Written (escaped x) l at m p) s rest) where
-  pub escaped_block : (x left : Bytes) → rest ≡ x ++ left → Written (escaped x) m p n r → Passed (λ y. Written (escaped y) l at n r) s left
-  escaped_block x left e b = passed_more (λ y. Written (escaped y) l at n r) x left e (λ y w. rw (escaped_append y x) (written_then h w b)) a
-
-  pub escaped_run : (x left : Bytes) → rest ≡ x ++ left → escaped x ≡ x → Written x m p n r → Passed (λ y. Written (escaped y) l at n r) s left
-  escaped_run x left e q b = escaped_block x left e (rw q b)
-
-  pub escaped_byte : (left : Bytes) (c : ℕ) → rest ≡ c ∷ left → Written (escape c) m p n r → Passed (λ y. Written (escaped y) l at n r) s left
-  unfolding escaped
-  escaped_byte left c e b = escaped_block (c ∷ []) left e (rw (append-nil (escape c)) b)
 
 -- bytes that have no escape
 pub plain_escaped : (s : Bytes) (r : ℕ) → r ≤ length s → ((k : ℕ) → k < r → escape (get_or s k 0) ≡ get_or s k 0 ∷ []) → escaped (take r s) ≡ take r s
@@ -216,11 +195,6 @@ module _ {s rest end : Bytes} {n : ℕ} (g : Counted s rest end n) where
       let e : end ≡ rest = g.last ∙ ap (λ m. drop m rest) q in
       ap (λ z. length (escaped z)) (g.joined ∙ ap (g.front ++◌) (sym e)) ∙ g.count.1 ∙ ap (λ z. length z + n) (ap (g.front ++◌) e ∙ sym g.joined)
 
-pub quoted_done : {l₀ l m n : Bytes} {at p q r : ℕ} (s : Bytes) → length l₀ ≤ largest
-    → Written (34 ∷ []) l₀ at l p → Written (escaped s) l p m q → Written (34 ∷ []) m q n r → Written (quoted s) l₀ at n r
-unfolding quoted
-quoted_done s h a b c = written_then h a (written_then (omega (arith, written_length a)) b c)
-
 -- one byte, by its escape
 module _ (b : ℕ) where
   pub escape_backslash : b ≡ 92 → escape b ≡ ascii "\\\\"
@@ -238,6 +212,11 @@ module _ (b : ℕ) where
   pub escape_other : (b ≡ 92 → ⊥) → (b ≡ 34 → ⊥) → (b ≡ 10 → ⊥) → escape b ≡ b ∷ []
   unfolding escape
   escape_other x y z = rw (ne_eqb b 92 x, ne_eqb b 34 y, ne_eqb b 10 z)
+
+-- what a byte's escape adds to its length
+pub escape_adds : (b : ℕ) (x : Bool) {k : ℕ} → MatchBool x (length (escape b) ≡ 2) (escape b ≡ b ∷ []) → k ≡ bool_byte x → (k ≤ 1) × (length (escape b) ≡ 1 + k)
+escape_adds b true h e = (omega arith, h ∙ omega arith)
+escape_adds b false h e = (omega arith, ap length h ∙ omega arith)
 
 -- ---- a number's digits
 
@@ -259,10 +238,3 @@ decimal_one n h = rw (lt-ltb n 10 h, digits)
 pub decimal_more : (n : ℕ) → 10 ≤ n → decimal n ≡ decimal (n / 10) ++ ((48 + n % 10) ∷ [])
 unfolding decimal digits
 decimal_more n h = rw (le-ltb n 10 h, digits) (more_steps n (suc (n / 10)) (n / 10) ((48 + n % 10) ∷ []) (omega arith) (omega arith) ∙ sym (digits_append (suc (n / 10)) (n / 10) [] ((48 + n % 10) ∷ [])))
-
-pub decimal_one_written : {l m : Bytes} {at r : ℕ} (n : ℕ) → n < 10 → Written ((n + 48) ∷ []) l at m r → Written (decimal n) l at m r
-decimal_one_written n h a = let q : 48 + n ≡ n + 48 = omega arith in rw (decimal_one n h, q) a
-
-pub decimal_more_written : {l m k : Bytes} {at p r : ℕ} (n : ℕ) → 10 ≤ n → length l ≤ largest → Written (decimal (n / 10)) l at m p
-    → Written ((n % 10 + 48) ∷ []) m p k r → Written (decimal n) l at k r
-decimal_more_written n h g a b = let q : 48 + n % 10 ≡ n % 10 + 48 = omega arith in rw (decimal_more n h, q) (written_then g a b)

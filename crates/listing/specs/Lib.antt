@@ -5,6 +5,7 @@ pub mod Reading
 pub mod Nesting
 pub mod Listing
 pub mod Written
+pub mod Wrote
 pub mod Code
 pub mod Children
 pub mod Held

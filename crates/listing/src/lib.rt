@@ -8,3 +8,4 @@ pub mod parameter;
 pub mod path;
 pub mod requote;
 pub mod write;
+pub mod writer;

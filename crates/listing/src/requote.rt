@@ -3,13 +3,15 @@ ghost use Rattle.std.specs.Prelude.{◌≡◌, ◌+◌, ◌-◌, ◌≤◌, ◌<
 ghost use Rattle.literal.specs.Requote.{requoted};
 ghost use Rattle.listing.specs.Code.Cost.{cost_alone, cost, cost_to};
 ghost use Rattle.listing.specs.Quoted.{quoted};
-ghost use Rattle.listing.specs.Written.{Written, onward};
+ghost use Rattle.listing.specs.Written.{onward};
+ghost use Rattle.listing.specs.Wrote.{Wrote};
 
-use crate::write::{put, put_escaped};
+use crate::writer::Writer;
 use literal::requote::{Place, next_quoted};
 
 // How many bytes are written for a byte of the inner text. `"` is rewritten to `\"`, of which both
 // bytes have an escape.
+// Stays: a table of its own, since an escape's length is 2 for `"` too.
 fn cost_alone(b: u8) -> u8
     ensures { (result ≤ 4) × (result ≡ cost_alone b) }
 {
@@ -67,26 +69,32 @@ fn requoted_cost(inner: &[u8]) -> usize
     n.saturating_add(block_cost(rest))
 }
 
-// The rewritten text, quoted, byte by byte.
-fn write_requoted_each(out: &mut [u8], at: usize, inner: &[u8]) -> usize
-    ensures { Written (quoted (requoted inner.now)) out.old at out.new result }
-{
-    let mut p = put(out, at, b'"');
-    let mut place = Place::Opening;
-    while let Some((b, next)) = next_quoted(inner, place) {
-        p = put_escaped(out, p, b);
-        place = next;
+impl<'a> Writer<'a> {
+    // The rewritten text, quoted, byte by byte.
+    fn write_requoted_each(&mut self, inner: &[u8])
+        ensures { Wrote (quoted (requoted inner.now)) self.old self.new }
+    {
+        self.put(b'"');
+        let mut place = Place::Opening;
+        while let Some((b, next)) = next_quoted(inner, place) {
+            self.put_escaped(b);
+            place = next;
+        }
+        self.put(b'"');
     }
-    put(out, p, b'"')
-}
 
-// The rewritten text, quoted. Where no byte can be stored its bytes are only counted. Six of them are
-// of the quotes: two that are written, and two of the rewritten text, each with its escape.
-pub fn write_requoted(out: &mut [u8], at: usize, inner: &[u8]) -> usize
-    ensures { Written (quoted (requoted inner.now)) out.old at out.new result }
-{
-    if out.len() <= at {
-        return at.saturating_add(6).saturating_add(requoted_cost(inner));
+    // The rewritten text, quoted. Where no byte can be stored its bytes are only counted. Six of them are
+    // of the quotes: two that are written, and two of the rewritten text, each with its escape.
+    pub fn write_requoted(&mut self, inner: &[u8])
+        ensures { Wrote (quoted (requoted inner.now)) self.old self.new }
+    {
+        if self.out.len() <= self.at {
+            self.at = self
+                .at
+                .saturating_add(6)
+                .saturating_add(requoted_cost(inner));
+            return;
+        }
+        self.write_requoted_each(inner);
     }
-    write_requoted_each(out, at, inner)
 }

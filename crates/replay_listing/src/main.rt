@@ -7,8 +7,7 @@ use card::input::read_full;
 use card::stored::Replay;
 use expression::parameter::Subexpression;
 use json_path::span::{Span, span_at, span_count};
-use listing::children::{write_decorator, write_helper};
-use listing::write::{write_decimal, write_quoted};
+use listing::writer::Writer;
 use std::io;
 use support::bytes::part;
 
@@ -17,11 +16,18 @@ const LIMIT: usize = 65536;
 
 const ROOM: usize = 8192;
 
-// One byte, quoted, on a line.
-fn show_byte(rt: &impl Print, b: u8) -> io::Result<()> {
+// What is written, on a line.
+fn show_line<F: Fn(&mut Writer)>(rt: &impl Print, write: F) -> io::Result<()>
+    requires { F.IsAlwaysCallable write }
+{
     // Stays: here and below arrays, since there is no heap: memory is fixed, and lent to what fills it.
-    let mut out = [0u8; 8];
-    let n = write_quoted(&mut out, 0, &[b]);
+    let mut out = [0u8; 600];
+    let mut w = Writer {
+        out: &mut out,
+        at: 0,
+    };
+    write(&mut w);
+    let n = w.at;
     rt.write_all(part(&out, 0, n))?;
     rt.println("")
 }
@@ -30,20 +36,15 @@ fn show_byte(rt: &impl Print, b: u8) -> io::Result<()> {
 fn show_bytes(rt: &impl Print) -> io::Result<()> {
     let mut all = [0u8; 256];
     for b in 0..256 {
-        show_byte(rt, b as u8)?;
+        let text = [b as u8; 1];
+        show_line(rt, |w| w.write_quoted(&text))?;
         all[b] = b as u8;
     }
-    let mut out = [0u8; 600];
-    let n = write_quoted(&mut out, 0, &all);
-    rt.write_all(part(&out, 0, n))?;
-    rt.println("")
+    show_line(rt, |w| w.write_quoted(&all))
 }
 
 fn show_decimal(rt: &impl Print, n: usize) -> io::Result<()> {
-    let mut out = [0u8; 24];
-    let m = write_decimal(&mut out, 0, n);
-    rt.write_all(part(&out, 0, m))?;
-    rt.println("")
+    show_line(rt, |w| w.write_decimal(n))
 }
 
 // One less, the number and one more.
@@ -62,7 +63,7 @@ fn show_numbers(rt: &impl Print) -> io::Result<()> {
 }
 
 // What a writer measures over no output, and what it writes.
-fn show_written<F: Fn(&mut [u8]) -> usize>(
+fn show_written<F: Fn(&mut Writer)>(
     rt: &impl Print,
     k: usize,
     word: &str,
@@ -72,8 +73,18 @@ fn show_written<F: Fn(&mut [u8]) -> usize>(
 {
     let mut out = [0u8; ROOM];
     let mut none = [0u8; 0];
-    let m = write(&mut none);
-    let n = write(&mut out);
+    let mut measured = Writer {
+        out: &mut none,
+        at: 0,
+    };
+    write(&mut measured);
+    let m = measured.at;
+    let mut written = Writer {
+        out: &mut out,
+        at: 0,
+    };
+    write(&mut written);
+    let n = written.at;
     println!(rt; "{k} {word} {m}")?;
     rt.write_all(part(&out, 0, n))
 }
@@ -93,12 +104,10 @@ fn show_at(rt: &impl Print, text: &[u8], words: &[u32], k: usize) -> io::Result<
     };
     match s.tag {
         5..=18 | 27 => {
-            show_written(rt, k, "decorator", |out| {
-                write_decorator(out, 0, text, words, link)
+            show_written(rt, k, "decorator", |w| {
+                w.write_decorator(text, words, link)
             })?;
-            show_written(rt, k, "helper", |out| {
-                write_helper(out, 0, text, words, link)
-            })
+            show_written(rt, k, "helper", |w| w.write_helper(text, words, link))
         }
         _ => Ok(()),
     }

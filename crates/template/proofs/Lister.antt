@@ -14,12 +14,13 @@ use Rattle.listing.specs.Form.{Word, Field, write_head, write_fields, Forms, nil
 use Rattle.support.specs.Position.{Place}
 use Rattle.listing.specs.Tree.{Item, Wrap, decor_block, partial_block, Head, head, Elem, item, block, wrap, Body, end, then, Else, no_else, else}
 use Rattle.listing.specs.Listing.{bit, place_field, indent_field, call_forms, block_param_forms, item_form, wrap_form, block_form, elem_form, body_forms, else_forms, write}
-use Rattle.listing.specs.Written.{largest, Written}
-use Rattle.listing.proofs.Writes.{written_then, written_length}
+use Rattle.listing.specs.Wrote.{Wrote}
+use Rattle.listing.specs.declared.writer.Writer.{Writer}
+use Rattle.listing.proofs.Writers.{wrote_then, Onward, onward_start, onward_as, onward_next}
 use Rattle.listing.proofs.ChildWrites.{call_join, block_join}
 use Rattle.template.specs.Element.{role_of, has_body, Sound}
 use Rattle.template.specs.Store.{element_at, Leaf, Helper, Wrapper, Chain, Node, ElseAt, Holds, Stored}
-use Rattle.template.specs.Opening.{block_opening, wrap_opening, opening_by, opening, waits, body_end, deeper, link_inside, link_behind}
+use Rattle.template.specs.Opening.{block_opening, wrap_opening, opening_by, opening, waits}
 use Rattle.template.specs.declared.element.Element.{Element}
 use Rattle.template.specs.declared.list.Waiting as code
 use Rattle.template.proofs.BodyAt.{else_of, body_at, chain_read, else_read, holds_one}
@@ -77,11 +78,10 @@ tail [] = ascii "]\n"
 tail (context m hi e r ∷ cs) = ascii "]\n" ++ (write_forms (else_forms e) ++ (ascii "]\n" ++ (body_bytes r ++ tail cs)))
 
 -- the first line, and the rest
-pub listed : (b : Body) {l m n : Bytes} {at p q : ℕ} → length l ≤ largest → Written (ascii "[template\n") l at m p
-    → Written (body_bytes b ++ ascii "]\n") m p n q
-    → Written (write b) l at n q
+pub listed : (b : Body) {before start now : Writer} → Wrote (ascii "[template\n") before start → Wrote (body_bytes b ++ ascii "]\n") start now
+    → Wrote (write b) before now
 unfolding write write_form write_head write_fields
-listed b g a w = written_then g a w
+listed b a w = wrote_then a w
 
 -- turns
 unfoldable mutual
@@ -186,8 +186,8 @@ module _ (text : Bytes) (words : List ℕ) (st : List Element) where
 
   -- ---- the state of the loop
 
-  -- bytes l and the position `start` behind the first line, m and p now; the chain from `at` is what is left of the body that is being listed
-  pub record Lister (first : ℕ) (l : Bytes) (start : ℕ) (m : Bytes) (ws : List code.Waiting) (p at depth : ℕ) : Type 0 where
+  -- the writer at `start` behind the first line, and now; the chain from `at` is what is left of the body that is being listed
+  pub record Lister (first : ℕ) (start now : Writer) (ws : List code.Waiting) (at depth : ℕ) : Type 0 where
     body : Body
     holds : Holds text words st first body
     here : Body
@@ -202,11 +202,9 @@ module _ (text : Bytes) (words : List ℕ) (st : List Element) where
     stack : Stack ws hi contexts
     deep : length contexts ≡ depth
     pub long : length ws ≡ length st
-    whole : (k : Bytes) (r : ℕ) → Written (body_bytes here ++ tail contexts) m p k r → Written (body_bytes body ++ ascii "]\n") l start k r
-    pub same : length m ≡ length l
-    position : p ≤ largest
+    whole : Onward (body_bytes body ++ ascii "]\n") (body_bytes here ++ tail contexts) start now
 
-  left_size_lem : {first : ℕ} {l m : Bytes} {ws : List code.Waiting} {start p at depth : ℕ} (s : Lister first l start m ws p at depth)
+  left_size_lem : {first : ℕ} {start now : Writer} {ws : List code.Waiting} {at depth : ℕ} (s : Lister first start now ws at depth)
       → left_size ws at depth ≡ body_size s.here + stack_size s.contexts
   unfolding left_size
   left_size_lem {ws = ws} {at = at} {depth = depth} s =
@@ -215,9 +213,9 @@ module _ (text : Bytes) (words : List ℕ) (st : List Element) where
       omega (arith, a, b)
 
   -- before the first turn
-  pub begins : {first : ℕ} {l : Bytes} {p : ℕ} (ws : List code.Waiting) → length ws ≡ length st → p ≤ largest → Stored text words st first → Lister first l p l ws p first 0
+  pub begins : {first : ℕ} {start : Writer} (ws : List code.Waiting) → length ws ≡ length st → Stored text words st first → Lister first start start ws first 0
   unfolding tail
-  begins ws long g s = record {
+  begins ws long s = record {
     body = s.body;
     holds = s.holds;
     here = s.body;
@@ -232,9 +230,7 @@ module _ (text : Bytes) (words : List ℕ) (st : List Element) where
     stack = tt;
     deep = refl;
     long = long;
-    whole = λ k r v. v;
-    same = refl;
-    position = g;
+    whole = onward_start _ _;
   }
 
   -- an element has at most three turns
@@ -287,22 +283,22 @@ module _ (text : Bytes) (words : List ℕ) (st : List Element) where
       ∙ ap (◌++ (body_bytes b ++ (ascii "]\n" ++ (write_forms nil ++ ascii "]\n")))) i
 
   -- the state after a turn, with less left than before
-  pub record Turn (first : ℕ) (l : Bytes) (start : ℕ) (m : Bytes) (ws : List code.Waiting) (p at depth size : ℕ) : Type 0 where
-    pub state : Lister first l start m ws p at depth
+  pub record Turn (first : ℕ) (start now : Writer) (ws : List code.Waiting) (at depth size : ℕ) : Type 0 where
+    pub state : Lister first start now ws at depth
     pub less : left_size ws at depth < size
 
-  turned : {first : ℕ} {l m : Bytes} {ws : List code.Waiting} {start p at depth size : ℕ} (s : Lister first l start m ws p at depth)
+  turned : {first : ℕ} {start now : Writer} {ws : List code.Waiting} {at depth size : ℕ} (s : Lister first start now ws at depth)
       → body_size s.here + stack_size s.contexts < size
-      → Turn first l start m ws p at depth size
+      → Turn first start now ws at depth size
   turned s h = record { state = s; less = omega (arith, left_size_lem s, h) }
 
   -- an entry, a link and a depth that are told by equations
-  pub entered : (ws : List code.Waiting) (i : ℕ) {first : ℕ} {l m : Bytes} {u v : code.Waiting} {start p at at' depth depth' size : ℕ} → v ≡ u → at' ≡ at → depth' ≡ depth
-      → Turn first l start m (set ws i u) p at depth size
-      → Turn first l start m (set ws i v) p at' depth' size
-  entered ws i {first} {l} {m} {u} {v} {start} {p} {at} {at'} {depth} {depth'} {size} e f g t =
-      subst (λ z. Turn first l start m (set ws i z) p at' depth' size) (sym e)
-      (subst (λ z. Turn first l start m (set ws i u) p z depth' size) (sym f) (subst (λ z. Turn first l start m (set ws i u) p at z size) (sym g) t))
+  pub entered : (ws : List code.Waiting) (i : ℕ) {first : ℕ} {start now : Writer} {u v : code.Waiting} {at at' depth depth' size : ℕ} → v ≡ u → at' ≡ at → depth' ≡ depth
+      → Turn first start now (set ws i u) at depth size
+      → Turn first start now (set ws i v) at' depth' size
+  entered ws i {first} {start} {now} {u} {v} {at} {at'} {depth} {depth'} {size} e f g t =
+      subst (λ z. Turn first start now (set ws i z) at' depth' size) (sym e)
+      (subst (λ z. Turn first start now (set ws i u) z depth' size) (sym f) (subst (λ z. Turn first start now (set ws i u) at z size) (sym g) t))
 
   pub leaf_bytes : {o : Option Place} {x : Item} {e : Element} → Leaf text words o x e → write_form (item_form (place_field o) x) ≡ opening text words e
   unfolding opening_by
@@ -341,20 +337,20 @@ module _ (text : Bytes) (words : List ℕ) (st : List Element) where
       both true q r = clash q
       both false q r = clash (sym r)
 
-  module _ {first : ℕ} {l m : Bytes} {ws : List code.Waiting} {start p at depth : ℕ} (g : length l ≤ largest) (s : Lister first l start m ws p at depth) where
-    -- the rest, from what was written and what is still to be
-    onward : {x y n k : Bytes} {q r : ℕ} → body_bytes s.here ++ tail s.contexts ≡ x ++ y → Written x m p n q → Written y n q k r → Written (body_bytes s.body ++ ascii "]\n") l start k r
-    onward {k = k} {r = r} e a b = s.whole k r (subst (λ z. Written z m p k r) (sym e) (written_then (omega (arith, s.same)) a b))
+  module _ {first : ℕ} {start now : Writer} {ws : List code.Waiting} {at depth : ℕ} (s : Lister first start now ws at depth) where
+    -- the rest, from what was written
+    onward : {x y : Bytes} {after : Writer} → body_bytes s.here ++ tail s.contexts ≡ x ++ y → Wrote x now after → Onward (body_bytes s.body ++ ascii "]\n") y start after
+    onward e w = onward_next (onward_as e s.whole) w
 
     -- nothing is left
-    pub finished : {n : Bytes} {q : ℕ} → at ≡ 0 → depth ≡ 0 → Written (ascii "]\n") m p n q
-        → (b : Body) → Holds text words st first b → Written (body_bytes b ++ ascii "]\n") l start n q
+    pub finished : {after : Writer} → at ≡ 0 → depth ≡ 0 → Wrote (ascii "]\n") now after
+        → (b : Body) → Holds text words st first b → Wrote (body_bytes b ++ ascii "]\n") start after
     unfolding tail write_form body_forms
-    finished {n} {q} a d w b h =
+    finished {after} a d w b h =
         let e : s.here ≡ end = ended s.here s.before at s.last s.lo s.hi s.chain (omega (arith, s.low)) a in
         let f : s.contexts ≡ [] = no_context s.contexts (s.deep ∙ d) in
-        let v : Written (body_bytes s.here ++ tail s.contexts) m p n q = rw (e, f) w in
-        subst (λ z. Written (body_bytes z ++ ascii "]\n") l start n q) (holds_one text words s.holds h) (s.whole n q v)
+        let v : Wrote (body_bytes s.here ++ tail s.contexts) now after = rw (e, f) w in
+        subst (λ z. Wrote (body_bytes z ++ ascii "]\n") start after) (holds_one text words s.holds h) (s.whole after v)
 
     -- the element at a link that is not 0
     module _ (some : at ≡ 0 → ⊥) where
@@ -382,13 +378,13 @@ module _ (text : Bytes) (words : List ℕ) (st : List Element) where
           go (then (wrap p w b) r) c = c.4.0.is.sound
 
       -- on to the next element; the entry is not waited for
-      leaf_turn : {n : Bytes} {q : ℕ} (v : code.Waiting) → has_body (role_of (element_at st at).element) ≡ false → Written (opening text words (element_at st at)) m p n q
-          → Turn first l start n (set ws depth v) q (element_at st at).next depth (left_size ws at depth)
+      pub leaf_turn : {after : Writer} → has_body (role_of (element_at st at).element) ≡ false → Wrote (opening text words (element_at st at)) now after
+          → Turn first start after ws (element_at st at).next depth (left_size ws at depth)
       unfolding body_size body_forms write_form
-      leaf_turn {n} {q} v f w = go s.here refl s.chain
+      leaf_turn {after} f w = go s.here refl s.chain
         where
           go : (b : Body) → s.here ≡ b → Chain text words st s.before at s.last s.lo s.hi b
-              → Turn first l start n (set ws depth v) q (element_at st at).next depth (left_size ws at depth)
+              → Turn first start after ws (element_at st at).next depth (left_size ws at depth)
           go end e c = absurd (some c.0)
           go (then (block p k h b x) r) e c = absurd (clash (sym (ap has_body c.4.3.is.role) ∙ f))
           go (then (wrap p k b) r) e c = absurd (clash (sym (ap has_body c.4.0.is.role) ∙ f))
@@ -407,16 +403,14 @@ module _ (text : Bytes) (words : List ℕ) (st : List Element) where
                 low = omega (arith, s.low, c.1, c.2);
                 near = s.near;
                 contexts = s.contexts;
-                stack = stack_same ws (set ws depth v) s.hi s.contexts (λ i j. get_or-set_other ws depth i v no_waiting (λ t. omega (arith, s.deep))) s.stack;
+                stack = s.stack;
                 deep = s.deep;
-                long = length-set ws depth v ∙ s.long;
-                whole = λ k r u. onward f w u;
-                same = written_length w ∙ s.same;
-                position = omega (arith, w.next);
+                long = s.long;
+                whole = onward f w;
               }) (omega (arith, left_size_lem s, z))
 
       -- a block waits while its body is listed
-      module _ {n : Bytes} {q : ℕ} (w : Written (opening text words (element_at st at)) m p n q) where
+      module _ {after : Writer} (w : Wrote (opening text words (element_at st at)) now after) where
         push : (b r : Body) (x : Else) (k z y : ℕ)
             → body_bytes s.here ++ tail s.contexts ≡ opening text words (element_at st at) ++ (body_bytes b ++ tail (context z s.hi x r ∷ s.contexts))
             → body_size s.here ≡ 2 + body_size b + else_size x + body_size r
@@ -424,7 +418,7 @@ module _ (text : Bytes) (words : List ℕ) (st : List Element) where
             → Chain text words st 0 (element_at st at).template y (at + 1) k b
             → ElseAt text words st (element_at st at).inverted (element_at st at).inverse k z x
             → Chain text words st at (element_at st at).next s.last z s.hi r
-            → Turn first l start n (set ws depth (waits at false)) q (element_at st at).template (depth + 1) (left_size ws at depth)
+            → Turn first start after (set ws depth (waits at false)) (element_at st at).template (depth + 1) (left_size ws at depth)
         unfolding stack_size
         push b r x k z y f size h1 h2 h3 h4 c e d =
             let v = waits at false in
@@ -458,18 +452,16 @@ module _ (text : Bytes) (words : List ℕ) (st : List Element) where
               );
               deep = omega (arith, s.deep);
               long = length-set ws depth v ∙ s.long;
-              whole = λ k r u. onward f w u;
-              same = written_length w ∙ s.same;
-              position = omega (arith, w.next);
+              whole = onward f w;
             }) (omega (arith, left_size_lem s))
 
-        block_turn : has_body (role_of (element_at st at).element) ≡ true
-            → Turn first l start n (set ws depth (waits at false)) q (element_at st at).template (depth + 1) (left_size ws at depth)
+        pub block_turn : has_body (role_of (element_at st at).element) ≡ true
+            → Turn first start after (set ws depth (waits at false)) (element_at st at).template (depth + 1) (left_size ws at depth)
         unfolding body_size body_forms write_form tail
         block_turn f = go s.here refl s.chain
           where
             go : (b : Body) → s.here ≡ b → Chain text words st s.before at s.last s.lo s.hi b
-                → Turn first l start n (set ws depth (waits at false)) q (element_at st at).template (depth + 1) (left_size ws at depth)
+                → Turn first start after (set ws depth (waits at false)) (element_at st at).template (depth + 1) (left_size ws at depth)
             go end e c = absurd (some c.0)
             go (then (item o x) r) e c = absurd (clash (sym f ∙ ap has_body c.4.is.role))
             go (then (block o v h b x) r) e c =
@@ -480,16 +472,6 @@ module _ (text : Bytes) (words : List ℕ) (st : List Element) where
                 push b r no_else c.0 c.0 c.4.2.0
                 (ap (λ b. body_bytes b ++ tail s.contexts) e ∙ ap (λ a. (a ++ body_bytes r) ++ tail s.contexts) (wrap_node c.4.0 b) ∙ split (opening text words (element_at st at)) (body_bytes b) (ascii "]\n") (write_forms (else_forms no_else)) (body_bytes r) (tail s.contexts))
                 (let z = ap body_size e in omega arith) c.1 c.2 (omega arith) c.3 c.4.2.1 c.4.1 c.5
-
-        -- either way
-        pub element_turn : let more = has_body (role_of (element_at st at).element) in
-            Turn first l start n (set ws depth (waits at false)) q (link_inside (element_at st at) more) (deeper depth more) (left_size ws at depth)
-        element_turn = go (has_body (role_of (element_at st at).element)) refl
-          where
-            go : (more : Bool) → has_body (role_of (element_at st at).element) ≡ more
-                → Turn first l start n (set ws depth (waits at false)) q (link_inside (element_at st at) more) (deeper depth more) (left_size ws at depth)
-            go true f = block_turn f
-            go false f = leaf_turn (waits at false) f w
 
     -- the block that waits, where a body ended
     module _ (over : at ≡ 0) (some : depth ≡ 0 → ⊥) where
@@ -504,16 +486,16 @@ module _ (text : Bytes) (words : List ℕ) (st : List Element) where
               (omega (arith, v.deep, v.order, v.below), v.inside)
 
       -- the entry on top
-      module _ {n : Bytes} {q : ℕ} where
-        else_turn : ((element_at st (get_or ws (depth - 1) no_waiting).block).inverted && not (get_or ws (depth - 1) no_waiting).inverse) ≡ true
-            → Written (ascii "]\n[else\n") m p n q
-            → Turn first l start n (set ws (depth - 1) (waits (get_or ws (depth - 1) no_waiting).block true)) q
+      module _ {after : Writer} where
+        pub else_turn : ((element_at st (get_or ws (depth - 1) no_waiting).block).inverted && not (get_or ws (depth - 1) no_waiting).inverse) ≡ true
+            → Wrote (ascii "]\n[else\n") now after
+            → Turn first start after (set ws (depth - 1) (waits (get_or ws (depth - 1) no_waiting).block true))
             (element_at st (get_or ws (depth - 1) no_waiting).block).inverse (depth - 1 + 1) (left_size ws at depth)
         unfolding body_size stack_size body_forms write_form write_head write_fields tail
         else_turn f w = go s.contexts refl s.deep s.stack
           where
             go : (cs : List Context) → s.contexts ≡ cs → length cs ≡ depth → Stack ws s.hi cs
-                → Turn first l start n (set ws (depth - 1) (waits (get_or ws (depth - 1) no_waiting).block true)) q
+                → Turn first start after (set ws (depth - 1) (waits (get_or ws (depth - 1) no_waiting).block true))
                 (element_at st (get_or ws (depth - 1) no_waiting).block).inverse (depth - 1 + 1) (left_size ws at depth)
             go [] e d t = absurd (some (sym d))
             go (context z hi x r ∷ cs) e d t =
@@ -559,19 +541,17 @@ module _ (text : Bytes) (words : List ℕ) (st : List Element) where
                   );
                   deep = omega arith;
                   long = length-set ws (depth - 1) v ∙ s.long;
-                  whole = λ k r o. onward b w o;
-                  same = written_length w ∙ s.same;
-                  position = omega (arith, w.next);
+                  whole = onward b w;
                 }) (omega (arith, left_size_lem s))
 
-        close_turn : (v : code.Waiting) → ((element_at st (get_or ws (depth - 1) no_waiting).block).inverted && not (get_or ws (depth - 1) no_waiting).inverse) ≡ false
-            → Written (ascii "]\n]\n") m p n q
-            → Turn first l start n (set ws (depth - 1) v) q (element_at st (get_or ws (depth - 1) no_waiting).block).next (depth - 1) (left_size ws at depth)
+        pub close_turn : ((element_at st (get_or ws (depth - 1) no_waiting).block).inverted && not (get_or ws (depth - 1) no_waiting).inverse) ≡ false
+            → Wrote (ascii "]\n]\n") now after
+            → Turn first start after ws (element_at st (get_or ws (depth - 1) no_waiting).block).next (depth - 1) (left_size ws at depth)
         unfolding body_size stack_size body_forms write_form write_head write_fields tail
-        close_turn v f w = go s.contexts refl s.deep s.stack
+        close_turn f w = go s.contexts refl s.deep s.stack
           where
             go : (cs : List Context) → s.contexts ≡ cs → length cs ≡ depth → Stack ws s.hi cs
-                → Turn first l start n (set ws (depth - 1) v) q (element_at st (get_or ws (depth - 1) no_waiting).block).next (depth - 1) (left_size ws at depth)
+                → Turn first start after ws (element_at st (get_or ws (depth - 1) no_waiting).block).next (depth - 1) (left_size ws at depth)
             go [] e d t = absurd (some (sym d))
             go (context z hi x r ∷ cs) e d t =
                 let i : length cs ≡ depth - 1 = omega arith in
@@ -595,22 +575,8 @@ module _ (text : Bytes) (words : List ℕ) (st : List Element) where
                   low = omega (arith, a.deep, a.order);
                   near = a.near;
                   contexts = cs;
-                  stack = stack_same ws (set ws (depth - 1) v) hi cs (λ j k. get_or-set_other ws (depth - 1) j v no_waiting (λ t. omega arith)) t.1;
+                  stack = t.1;
                   deep = i;
-                  long = length-set ws (depth - 1) v ∙ s.long;
-                  whole = λ k r o. onward b w o;
-                  same = written_length w ∙ s.same;
-                  position = omega (arith, w.next);
+                  long = s.long;
+                  whole = onward b w;
                 }) (omega (arith, left_size_lem s))
-
-        -- either way
-        pub back_turn : let u = get_or ws (depth - 1) no_waiting in let more = (element_at st u.block).inverted && not u.inverse in
-            Written (body_end more) m p n q
-            → Turn first l start n (set ws (depth - 1) (waits u.block true)) q (link_behind (element_at st u.block) more) (deeper (depth - 1) more) (left_size ws at depth)
-        back_turn = go ((element_at st (get_or ws (depth - 1) no_waiting).block).inverted && not (get_or ws (depth - 1) no_waiting).inverse) refl
-          where
-            go : let u = get_or ws (depth - 1) no_waiting in (more : Bool) → ((element_at st u.block).inverted && not u.inverse) ≡ more
-                → Written (body_end more) m p n q
-                → Turn first l start n (set ws (depth - 1) (waits u.block true)) q (link_behind (element_at st u.block) more) (deeper (depth - 1) more) (left_size ws at depth)
-            go true f w = else_turn f w
-            go false f w = close_turn (waits (get_or ws (depth - 1) no_waiting).block true) f w

@@ -1,6 +1,7 @@
--- What is written of a stored element before its body: all of an element that has none. What is written behind a body, and where the
--- listing goes on.
-use Rattle.std.specs.Prelude.{List, [], ◌∷◌, ◌++◌, Bool, true, false, ℕ, ◌+◌}
+-- What is written of a stored element before its body: all of an element that has none. What is written behind a body, and the blocks
+-- that wait meanwhile.
+use Rattle.std.specs.Prelude.{ℕ, zero, suc, List, [], ◌∷◌, ◌++◌, Bool, true, false, Some, None, get_or}
+use Rattle.std.specs.Prelude as prelude
 use Rattle.std.proofs.Math.Option.{Option}
 use Rattle.support.specs.Bytes.{Bytes, ascii}
 use Rattle.support.specs.Position.{Place}
@@ -49,17 +50,7 @@ abbrev pub body_end : Bool → Bytes
 body_end true = ascii "]\n[else\n"
 body_end false = ascii "]\n]\n"
 
--- how many blocks wait, when one more does or not
-abbrev pub deeper : ℕ → Bool → ℕ
-deeper depth true = depth + 1
-deeper depth false = depth
-
--- the link after an element's opening: into its body, or on
-abbrev pub link_inside : Element → Bool → ℕ
-link_inside e true = e.template
-link_inside e false = e.next
-
--- the link after a body: into the else, or on
-abbrev pub link_behind : Element → Bool → ℕ
-link_behind e true = e.inverse
-link_behind e false = e.next
+-- the block on top of those that wait
+abbrev pub top_of : List Waiting → ℕ → prelude.Option Waiting
+top_of ws zero = None
+top_of ws (suc depth) = Some (get_or ws depth (waits 0 false))

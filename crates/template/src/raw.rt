@@ -3,14 +3,15 @@ ghost use Rattle.std.specs.Prelude.{◌≡◌, ◌-◌, ◌≤◌, ◌<◌, leng
 ghost use Rattle.support.specs.TextRules.{strip_first_newline};
 ghost use Rattle.json_path.specs.Span.{escapes_from};
 ghost use Rattle.listing.specs.Quoted.{escaped, quoted};
-ghost use Rattle.listing.specs.Written.{Written, largest};
+ghost use Rattle.listing.specs.Written.{largest};
+ghost use Rattle.listing.specs.Wrote.{Wrote};
 ghost use Rattle.template.specs.Escapes.{escapes_to};
 ghost use Rattle.template.specs.Element.{Good, RawGood, raw_means, front_trim, back_trim};
 ghost use Rattle.template.specs.Raw.{numbered, cut_means, CutGood, CutIs, piece_end, piece_start, from_start, to_end, without_first, without_last, Skipped, start_trim, end_trim};
 
 use crate::element::{Back, Front, RawString};
 use json_path::span::{escape_at, span_at};
-use listing::write::{put, write_escaped};
+use listing::writer::Writer;
 use support::bytes::{byte_at, part};
 use support::str::{trim_end_blanks, trim_start_blanks};
 use support::white_space::{trim_end, trim_start};
@@ -66,6 +67,8 @@ fn from_start(c: Cut, start: usize) -> Cut
 }
 
 // How many bytes are left of a piece whose front is trimmed.
+// Stays: `white`, here and below, is the flag that the specification's `start_trim` and `end_trim` take. A function passed by name
+// would need a clause that says which of their two cases it is.
 fn front_left(piece: &[u8], white: bool) -> usize
     ensures { result ≡ length (start_trim white piece.now) }
 {
@@ -77,11 +80,13 @@ fn front_left(piece: &[u8], white: bool) -> usize
 }
 
 // The front trimmed of White_Space, or of blanks.
+// Stays: `CutGood`, here and below, is of a text and words, which a `Cut` lacks, so that no type of its own can say it.
 fn trim_front(text: &[u8], words: &[u32], cut: Cut, white: bool) -> Cut
     requires { CutGood text.now words.now cut }
     ensures { CutIs text.now words.now (start_trim white (cut_means text.now words.now cut)) result }
 {
     let mut c = cut;
+    // Stays: a `loop`, here and below, since a turn goes on to the next piece of the text and counts no index.
     loop {
         let start = c.start;
         let end = piece_end(words, c);
@@ -225,33 +230,26 @@ fn trimmed_back(text: &[u8], words: &[u32], c: Cut, back: Back) -> Cut
 }
 
 // The bytes of its pieces, as quoted text has them.
-fn write_cut(out: &mut [u8], at: usize, text: &[u8], words: &[u32], cut: Cut) -> usize
+fn write_cut(w: &mut Writer, text: &[u8], words: &[u32], cut: Cut)
     requires { CutGood text.now words.now cut }
-    ensures { Written (escaped (cut_means text.now words.now cut)) out.old at out.new result }
+    ensures { Wrote (escaped (cut_means text.now words.now cut)) w.old w.new }
 {
     let mut c = cut;
-    let mut p = at;
     loop {
         let start = c.start;
         let end = piece_end(words, c);
-        p = write_escaped(out, p, part(text, start, end));
+        w.write_escaped(part(text, start, end));
         if c.last <= c.first {
-            return p;
+            return;
         }
         c = without_first(c, end);
     }
 }
 
 // The text, quoted.
-pub(crate) fn write_raw(
-    out: &mut [u8],
-    at: usize,
-    text: &[u8],
-    words: &[u32],
-    r: RawString,
-) -> usize
+pub(crate) fn write_raw(w: &mut Writer, text: &[u8], words: &[u32], r: RawString)
     requires { Good text.now words.now × RawGood text.now words.now r }
-    ensures { Written (quoted (raw_means text.now words.now r)) out.old at out.new result }
+    ensures { Wrote (quoted (raw_means text.now words.now r)) w.old w.new }
 {
     let whole = Cut {
         start: r.start,
@@ -265,7 +263,7 @@ pub(crate) fn write_raw(
         trimmed_front(text, words, whole, r.front),
         r.back,
     );
-    let p = put(out, at, b'"');
-    let q = write_cut(out, p, text, words, c);
-    put(out, q, b'"')
+    w.put(b'"');
+    write_cut(w, text, words, c);
+    w.put(b'"');
 }

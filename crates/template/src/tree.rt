@@ -1,12 +1,44 @@
 // The listing of the tree that the store holds.
-ghost use Rattle.std.specs.Prelude.{◌≤◌};
+ghost use Rattle.std.specs.Prelude.{◌≡◌, ◌+◌, ◌-◌, ◌≤◌, ◌<◌, length, slice_set};
 ghost use Rattle.template.specs.Element.{Good};
+ghost use Rattle.template.specs.Opening.{top_of};
 ghost use Rattle.template.specs.Store.{Stored};
 ghost use Rattle.template.specs.Finish.{TreeIs};
 
 use crate::element::Element;
-use crate::list::{Waiting, deeper, has_else, link_behind, link_inside, write_element, write_end};
-use listing::write::put_bytes;
+use crate::list::{Waiting, has_else, write_element, write_end};
+use listing::writer::Writer;
+
+// The blocks that wait, the innermost on top.
+#[derive(Drop)]
+struct Waits<'a> {
+    blocks: &'a mut [Waiting],
+    count: usize,
+    ghost inside: { count ≤ length blocks.now },
+}
+
+impl<'a> Waits<'a> {
+    fn push(&mut self, w: Waiting)
+        requires { self.old.count < length self.old.blocks.now }
+        ensures blocks { self.new.blocks.now ≡ slice_set self.old.blocks.now self.old.count w }
+        ensures count { self.new.count ≡ self.old.count + 1 }
+    {
+        self.blocks[self.count] = w;
+        self.count += 1;
+    }
+
+    fn pop(&mut self) -> Option<Waiting>
+        ensures top { result ≡ top_of self.old.blocks.now self.old.count }
+        ensures blocks { self.new.blocks.now ≡ self.old.blocks.now }
+        ensures count { self.new.count ≡ self.old.count - 1 }
+    {
+        if self.count == 0 {
+            return None;
+        }
+        self.count -= 1;
+        Some(self.blocks[self.count])
+    }
+}
 
 // From element to element, and back to the block that waits where a body ends. At most as many blocks wait as
 // there are elements. What the output has no room for is only counted.
@@ -22,29 +54,38 @@ pub(crate) fn write_tree<const N: usize>(
     requires stored { Stored text.now words.now elements.now first }
     ensures { TreeIs text.now words.now elements.now first out.old out.new result }
 {
-    let mut waiting = [Waiting::EMPTY; N];
-    let mut p = put_bytes(out, 0, b"[template\n");
+    let mut blocks = [Waiting::EMPTY; N];
+    let mut waits = Waits {
+        blocks: &mut blocks,
+        count: 0,
+    };
+    let mut w = Writer { out, at: 0 };
+    w.put_bytes(b"[template\n");
     let mut link = first;
-    let mut waits: usize = 0;
+    // Stays: it follows the elements' links, and counts no index.
     loop {
         if link > 0 {
             let e = elements[link];
-            let more = e.has_body();
-            p = write_element(out, p, text, words, e);
-            waiting[waits] = Waiting::new(link, false);
-            waits = deeper(waits, more);
-            link = link_inside(e, more);
-        } else if waits > 0 {
-            waits -= 1;
-            let w = waiting[waits];
-            let e = elements[w.block];
-            let more = has_else(e, w);
-            p = write_end(out, p, more);
-            waiting[waits] = Waiting::new(w.block, true);
-            waits = deeper(waits, more);
-            link = link_behind(e, more);
+            write_element(&mut w, text, words, e);
+            if e.has_body() {
+                waits.push(Waiting::new(link, false));
+                link = e.template;
+            } else {
+                link = e.next;
+            }
+        } else if let Some(x) = waits.pop() {
+            let e = elements[x.block];
+            let more = has_else(e, x);
+            write_end(&mut w, more);
+            if more {
+                waits.push(Waiting::new(x.block, true));
+                link = e.inverse;
+            } else {
+                link = e.next;
+            }
         } else {
-            return put_bytes(out, p, b"]\n");
+            w.put_bytes(b"]\n");
+            return w.at;
         }
     }
 }

@@ -12,7 +12,8 @@ loop-b-init c = omega arith
 pub loop-b-preserved : goal.loop-b-preserved
 loop-b-preserved c =
     let l = c.loop-b in
-    (omega arith, writes.escapes_byte c.args.block.now l.b-index (omega arith) l.invariant.1 c.more-n.ensures)
+    let k = writes.escape_adds _ c.has_escape.result c.has_escape.ensures c.from-n.ensures in
+    (omega arith, writes.escapes_byte c.args.block.now l.b-index (omega arith) l.invariant.1 k)
 
 pub returns : goal.returns
 returns c =

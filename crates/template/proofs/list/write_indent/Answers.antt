@@ -1,6 +1,5 @@
--- `template::list::write_indent` meets its contract: no indent is kept, there are no blanks, or the blanks. Assumes nothing.
-use native.Mathlib.Omega.{arith}
-use Rattle.listing.proofs.Writes as writes
+-- No indent is kept, there are no blanks, or the blanks. Assumes nothing.
+use Rattle.listing.proofs.Writers.{wrote_then}
 use Rattle.template.proofs.ElementWrites as elements
 use Rattle.template.proofs.list.write_indent.Goals as goal
 
@@ -15,4 +14,4 @@ returns-then-blanks-eq0 c =
 pub returns : goal.returns
 returns c =
     elements.indent_some c.args.text.now c.args.d c.in-Some.is c.part.ensures c.find_trailing_whitespace_chars-blanks.ensures c.if-blanks-eq0.false
-    (writes.written_then (omega (arith, c.well_formed.0.0)) c.put_bytes-p.ensures c.write_quoted.ensures)
+    (wrote_then c.put_bytes-2.ensures c.write_quoted.ensures)

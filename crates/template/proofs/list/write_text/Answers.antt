@@ -1,18 +1,12 @@
--- `template::list::write_text` meets its contract: the pieces of the form, one after the other. Assumes nothing.
-use native.Mathlib.Omega.{arith}
-use Rattle.listing.proofs.PathWrites as paths
+-- The pieces of the form, one after the other. Assumes nothing.
+use Rattle.listing.proofs.Writers.{wrote_then}
 use Rattle.template.proofs.ElementWrites as elements
 use Rattle.template.proofs.list.write_text.Goals as goal
 
-pub write_raw-t-requires : goal.write_raw-t-requires
-write_raw-t-requires c = c.requires
+pub write_raw-requires : goal.write_raw-requires
+write_raw-requires c = c.requires
 
 pub returns : goal.returns
 returns c =
-    let good = c.well_formed in
-    let put_bytes = c.put_bytes-p in
-    let write_place = c.write_place-q in
-    let put_bytes2 = c.put_bytes-s in
-    let write_raw = c.write_raw-t in
-    let put_bytes3 = c.put_bytes in
-    rw (elements.text_bytes _ _) (paths.five (omega (arith, good.0.0)) put_bytes.ensures write_place.ensures put_bytes2.ensures write_raw.ensures put_bytes3.ensures)
+    rw (elements.text_bytes _ _)
+    (wrote_then c.put_bytes.ensures (wrote_then c.write_place.ensures (wrote_then c.put_bytes-2.ensures (wrote_then c.write_raw.ensures c.put_bytes-3.ensures))))

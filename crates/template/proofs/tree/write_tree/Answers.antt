@@ -1,15 +1,15 @@
 -- The loop keeps what proofs/Pass says. Assumes nothing.
 use native.Mathlib.Omega.{arith}
-use mathlib.Core.Path.{refl}
-use Rattle.listing.proofs.Writes.{written_length}
+use mathlib.Core.Path.{refl, sym, ap, ◌∙◌}
+use Rattle.std.proofs.Common.{rules}
+use Rattle.template.specs.Opening.{body_end}
 use Rattle.template.proofs.Pass as pass
 use Rattle.template.proofs.ElementWrites.{bytes_are}
 use Rattle.template.proofs.tree.write_tree.Goals as goal
 
 pub loop-link-init : goal.loop-link-init
 loop-link-init g c =
-    let line = c.put_bytes-p.ensures in
-    pass.starts _ _ _ _ g.row.N (omega arith) c.requires.size c.requires.stored (omega (arith, c.well_formed.0, written_length line)) (omega (arith, line.next))
+    pass.starts _ _ _ _ g.row.N (omega arith) c.requires.size c.requires.stored (omega (arith, c.put_bytes.ensures.bytes.next))
 
 pub offset_bounds-elements-link : goal.offset_bounds-elements-link
 offset_bounds-elements-link g c = omega (arith, pass.element_in c.loop-link.invariant c.if-link-gt0.true)
@@ -17,61 +17,67 @@ offset_bounds-elements-link g c = omega (arith, pass.element_in c.loop-link.inva
 pub bounds-elements-link : goal.bounds-elements-link
 bounds-elements-link g c = pass.element_in c.loop-link.invariant c.if-link-gt0.true
 
-pub write_element-p-requires : goal.write_element-p-requires
-write_element-p-requires g c = (c.requires.good, pass.element_good c.loop-link.invariant c.if-link-gt0.true)
+pub write_element-requires : goal.write_element-requires
+write_element-requires g c = (c.requires.good, pass.element_good c.loop-link.invariant c.if-link-gt0.true)
 
-pub offset_bounds-waiting-waits : goal.offset_bounds-waiting-waits
-offset_bounds-waiting-waits g c = omega (arith, pass.depth_in c.loop-link.invariant c.if-link-gt0.true)
+pub push-requires : goal.push-requires
+push-requires g c = pass.depth_in c.loop-link.invariant c.if-link-gt0.true
 
-pub bounds-waiting-waits : goal.bounds-waiting-waits
-bounds-waiting-waits g c = pass.depth_in c.loop-link.invariant c.if-link-gt0.true
+pub loop-link-smaller-then-has_body : goal.loop-link-smaller-then-has_body
+loop-link-smaller-then-has_body g c =
+    rw (c.push.ensures.blocks, c.push.ensures.count, c.new.ensures)
+    (pass.block_turned c.loop-link.invariant c.if-link-gt0.true c.write_element.ensures.1 c.write_element.ensures.0 (sym c.has_body.ensures ∙ c.if-has_body.true)).less
 
-pub deeper-waits-requires : goal.deeper-waits-requires
-deeper-waits-requires g c = omega (arith, pass.depth_in c.loop-link.invariant c.if-link-gt0.true)
+pub loop-link-preserved-then-has_body : goal.loop-link-preserved-then-has_body
+loop-link-preserved-then-has_body g c =
+    rw (c.push.ensures.blocks, c.push.ensures.count, c.new.ensures)
+    (pass.block_turned c.loop-link.invariant c.if-link-gt0.true c.write_element.ensures.1 c.write_element.ensures.0 (sym c.has_body.ensures ∙ c.if-has_body.true)).pass
 
-pub loop-link-smaller-then-link-gt0 : goal.loop-link-smaller-then-link-gt0
-loop-link-smaller-then-link-gt0 g c =
-    (pass.element_turned c.loop-link.invariant c.if-link-gt0.true c.has_body-more.ensures c.new.ensures c.link_inside-link.ensures c.deeper-waits.ensures c.write_element-p.ensures.1 c.write_element-p.ensures.0).less
+pub loop-link-smaller-else-has_body : goal.loop-link-smaller-else-has_body
+loop-link-smaller-else-has_body g c =
+    (pass.leaf_turned c.loop-link.invariant c.if-link-gt0.true c.write_element.ensures.1 c.write_element.ensures.0 (sym c.has_body.ensures ∙ c.if-has_body.false)).less
 
-pub loop-link-preserved-then-link-gt0 : goal.loop-link-preserved-then-link-gt0
-loop-link-preserved-then-link-gt0 g c =
-    (pass.element_turned c.loop-link.invariant c.if-link-gt0.true c.has_body-more.ensures c.new.ensures c.link_inside-link.ensures c.deeper-waits.ensures c.write_element-p.ensures.1 c.write_element-p.ensures.0).pass
+pub loop-link-preserved-else-has_body : goal.loop-link-preserved-else-has_body
+loop-link-preserved-else-has_body g c =
+    (pass.leaf_turned c.loop-link.invariant c.if-link-gt0.true c.write_element.ensures.1 c.write_element.ensures.0 (sym c.has_body.ensures ∙ c.if-has_body.false)).pass
 
-pub offset_bounds-waiting-waits-then-waits-gt0 : goal.offset_bounds-waiting-waits-then-waits-gt0
-offset_bounds-waiting-waits-then-waits-gt0 g c = omega (arith, pass.entry_in c.loop-link.invariant c.if-link-gt0.false c.if-waits-gt0.true)
+pub offset_bounds-elements-x : goal.offset_bounds-elements-x
+offset_bounds-elements-x g c = omega (arith, pass.block_in c.loop-link.invariant c.if-link-gt0.false (sym c.pop.ensures.top ∙ c.in-Some.is))
 
-pub bounds-waiting-waits-then-waits-gt0 : goal.bounds-waiting-waits-then-waits-gt0
-bounds-waiting-waits-then-waits-gt0 g c = pass.entry_in c.loop-link.invariant c.if-link-gt0.false c.if-waits-gt0.true
+pub bounds-elements-x : goal.bounds-elements-x
+bounds-elements-x g c = pass.block_in c.loop-link.invariant c.if-link-gt0.false (sym c.pop.ensures.top ∙ c.in-Some.is)
 
-pub offset_bounds-elements-w : goal.offset_bounds-elements-w
-offset_bounds-elements-w g c = omega (arith, pass.block_in c.loop-link.invariant c.if-link-gt0.false c.if-waits-gt0.true)
+pub loop-link-smaller-then-more : goal.loop-link-smaller-then-more
+loop-link-smaller-then-more g c =
+    let more = sym c.has_else-more.ensures ∙ c.if-more.true in
+    rw (c.push-then-more.ensures.blocks, c.push-then-more.ensures.count, c.pop.ensures.blocks, c.pop.ensures.count, c.new-then-more.ensures)
+    (pass.else_turned c.loop-link.invariant c.if-link-gt0.false (sym c.pop.ensures.top ∙ c.in-Some.is) more (bytes_are (ap body_end (sym c.if-more.true)) c.write_end.ensures)).less
 
-pub bounds-elements-w : goal.bounds-elements-w
-bounds-elements-w g c = pass.block_in c.loop-link.invariant c.if-link-gt0.false c.if-waits-gt0.true
-
-pub offset_bounds-waiting-waits-then-waits-gt0-2 : goal.offset_bounds-waiting-waits-then-waits-gt0-2
-offset_bounds-waiting-waits-then-waits-gt0-2 g c = omega (arith, pass.entry_in c.loop-link.invariant c.if-link-gt0.false c.if-waits-gt0.true)
-
-pub bounds-waiting-waits-then-waits-gt0-2 : goal.bounds-waiting-waits-then-waits-gt0-2
-bounds-waiting-waits-then-waits-gt0-2 g c = pass.entry_in c.loop-link.invariant c.if-link-gt0.false c.if-waits-gt0.true
-
-pub deeper-waits-requires-then-waits-gt0 : goal.deeper-waits-requires-then-waits-gt0
-deeper-waits-requires-then-waits-gt0 g c = omega (arith, pass.entry_in c.loop-link.invariant c.if-link-gt0.false c.if-waits-gt0.true)
+pub loop-link-preserved-then-more : goal.loop-link-preserved-then-more
+loop-link-preserved-then-more g c =
+    let more = sym c.has_else-more.ensures ∙ c.if-more.true in
+    rw (c.push-then-more.ensures.blocks, c.push-then-more.ensures.count, c.pop.ensures.blocks, c.pop.ensures.count, c.new-then-more.ensures)
+    (pass.else_turned c.loop-link.invariant c.if-link-gt0.false (sym c.pop.ensures.top ∙ c.in-Some.is) more (bytes_are (ap body_end (sym c.if-more.true)) c.write_end.ensures)).pass
 
 pub loop-link-smaller : goal.loop-link-smaller
 loop-link-smaller g c =
-    (pass.back_turned c.loop-link.invariant c.if-link-gt0.false c.if-waits-gt0.true c.has_else-more.ensures c.new-then-waits-gt0.ensures c.link_behind-link.ensures c.deeper-waits-then-waits-gt0.ensures c.write_end-p.ensures).less
+    let more = sym c.has_else-more.ensures ∙ c.if-more.false in
+    rw (c.pop.ensures.blocks, c.pop.ensures.count)
+    (pass.close_turned c.loop-link.invariant c.if-link-gt0.false (sym c.pop.ensures.top ∙ c.in-Some.is) more (bytes_are (ap body_end (sym c.if-more.false)) c.write_end.ensures)).less
 
 pub loop-link-preserved : goal.loop-link-preserved
 loop-link-preserved g c =
-    (pass.back_turned c.loop-link.invariant c.if-link-gt0.false c.if-waits-gt0.true c.has_else-more.ensures c.new-then-waits-gt0.ensures c.link_behind-link.ensures c.deeper-waits-then-waits-gt0.ensures c.write_end-p.ensures).pass
+    let more = sym c.has_else-more.ensures ∙ c.if-more.false in
+    rw (c.pop.ensures.blocks, c.pop.ensures.count)
+    (pass.close_turned c.loop-link.invariant c.if-link-gt0.false (sym c.pop.ensures.top ∙ c.in-Some.is) more (bytes_are (ap body_end (sym c.if-more.false)) c.write_end.ensures)).pass
 
-pub shape_of-out-else-waits-gt0 : goal.shape_of-out-else-waits-gt0
-shape_of-out-else-waits-gt0 g c = pass.same_length c.loop-link.invariant (bytes_are refl c.put_bytes-p.ensures) c.if-link-gt0.false c.if-waits-gt0.false refl c.put_bytes.ensures
-
-pub returns-else-waits-gt0 : goal.returns-else-waits-gt0
-returns-else-waits-gt0 g c =
+pub returns-in_default : goal.returns-in_default
+returns-in_default g c =
+    let line = bytes_are refl c.put_bytes.ensures in
+    let end = c.put_bytes-in_default.ensures in
+    let lists = pass.lists c.loop-link.invariant line c.if-link-gt0.false (pass.none_left _ _ (sym c.pop.ensures.top ∙ c.in_default.is)) refl end in
+    let same = sym (lists c.requires.stored.body c.requires.stored.holds).same in
     record {
-      lists = pass.lists c.loop-link.invariant (bytes_are refl c.put_bytes-p.ensures) c.if-link-gt0.false c.if-waits-gt0.false refl c.put_bytes.ensures;
-      short = pass.below c.loop-link.invariant (bytes_are refl c.put_bytes-p.ensures) c.if-link-gt0.false c.if-waits-gt0.false refl c.put_bytes.ensures;
+      lists = λ b h. let w = (lists b h).bytes in (search rules);
+      short = pass.below c.loop-link.invariant line c.if-link-gt0.false (pass.none_left _ _ (sym c.pop.ensures.top ∙ c.in_default.is)) refl end;
     }

@@ -4,7 +4,7 @@ use Rattle.template.proofs.Pass as pass
 use Rattle.template.proofs.tree.write_tree.Given as goal
 
 abbrev pub invariant-loop-link : goal.invariant-loop-link
-invariant-loop-link g l = pass.Pass l.text l.words l.elements l.initial.link g.row.N l.initial.out l.initial.p l.out l.waiting l.p l.link l.waits
+invariant-loop-link g l = pass.Pass l.text l.words l.elements l.initial.link g.row.N l.initial.w l.w l.waits.blocks.now l.link l.waits.count
 
 abbrev pub decreases-loop-link : goal.decreases-loop-link
-decreases-loop-link g l = lister.left_size l.text l.words l.elements l.waiting l.link l.waits
+decreases-loop-link g l = lister.left_size l.text l.words l.elements l.waits.blocks.now l.link l.waits.count

@@ -1,6 +1,0 @@
--- `listing::children::write_single` meets its contract: the form is a line. Assumes nothing.
-use Rattle.listing.proofs.ChildWrites as children
-use Rattle.listing.proofs.children.write_single.Goals as goal
-
-pub returns : goal.returns
-returns c = rw (children.single_bytes _) c.write_line.ensures

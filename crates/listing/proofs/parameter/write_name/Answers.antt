@@ -1,6 +1,0 @@
--- `listing::parameter::write_name` meets its contract: the form is a line. Assumes nothing.
-use Rattle.listing.proofs.ParamWrites as params
-use Rattle.listing.proofs.parameter.write_name.Goals as goal
-
-pub returns : goal.returns
-returns c = rw (params.name_bytes_lem _) c.write_line.ensures
