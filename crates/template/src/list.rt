@@ -7,12 +7,13 @@ ghost use Rattle.listing.specs.Tree as Tree;
 ghost use Rattle.listing.specs.Listing.{bit, place_field, indent_field, item_form};
 ghost use Rattle.listing.specs.Children.{helper_children};
 ghost use Rattle.listing.specs.Wrote.{Wrote};
-ghost use Rattle.template.specs.Element.{place_means, link_of, raw_means, comment_means, indent_means, head_at, Good, RawGood, Sound};
+ghost use Rattle.template.specs.Element.{place_means, link_of, raw_means, comment_means, indent_means, head_at, RawGood, Sound};
 ghost use Rattle.template.specs.Opening.{block_opening, decorated_bytes, opening, waits, body_end};
 
 use crate::element::{
     Comment, DecoratorTemplate, Element, HelperTemplate, RawString, TemplateElement,
 };
+use crate::input::Input;
 use crate::raw::write_raw;
 use expression::parameter::Subexpression;
 use listing::writer::Writer;
@@ -62,7 +63,7 @@ fn write_place(w: &mut Writer, p: Place)
     w.write_decimal(p.column as usize);
 }
 
-// c or i, behind a space.
+// c or i, after a space.
 // Stays: beside `write_end`, since the two share one test and write other texts.
 fn write_bit(w: &mut Writer, b: bool)
     ensures { Wrote (ascii " " ++ write_field (bit b)) w.old w.new }
@@ -83,7 +84,7 @@ fn write_comment_text(w: &mut Writer, text: &[u8], c: Comment)
     w.write_quoted(hbs_comment_text(own));
 }
 
-// d: the kept indent or `-`, behind a space.
+// d: the kept indent or `-`, after a space.
 fn write_indent(w: &mut Writer, text: &[u8], d: DecoratorTemplate)
     ensures { Wrote (ascii " " ++ write_field (indent_field (indent_means text.now [] d))) w.old w.new }
 {
@@ -98,15 +99,14 @@ fn write_indent(w: &mut Writer, text: &[u8], d: DecoratorTemplate)
     w.write_quoted(blanks);
 }
 
-// Stays: `text` and `words` apart, here and below, as listing's writers and the readers take them.
-fn write_text(w: &mut Writer, text: &[u8], words: &[u32], place: Place, r: RawString)
-    requires { Good text.now words.now × RawGood text.now words.now r }
-    ensures { Wrote (write_form (item_form (place_field (place_means place)) (Tree.text (raw_means text.now words.now r)))) w.old w.new }
+fn write_text(w: &mut Writer, input: &Input, place: Place, r: RawString)
+    requires { RawGood input.now.text.now input.now.words.now r }
+    ensures { Wrote (write_form (item_form (place_field (place_means place)) (Tree.text (raw_means input.now.text.now input.now.words.now r)))) w.old w.new }
 {
     w.put_bytes(b"[text ");
     write_place(w, place);
     w.put_bytes(b" ");
-    write_raw(w, text, words, r);
+    write_raw(w, input.text, input.words, r);
     w.put_bytes(b"]\n");
 }
 
@@ -122,90 +122,69 @@ fn write_comment(w: &mut Writer, text: &[u8], place: Place, c: Comment)
 
 // An expression, from its word.
 // Stays: beside `write_decorated`, which writes two fields more and other children.
-fn write_expression(
-    w: &mut Writer,
-    text: &[u8],
-    words: &[u32],
-    word: &[u8],
-    place: Place,
-    h: HelperTemplate,
-)
-    ensures { Wrote (word.now ++ (write_field (place_field (place_means place)) ++ (ascii "\n" ++ (write_forms (helper_children text.now words.now (link_of h.from h.limit)) ++ ascii "]\n")))) w.old w.new }
+fn write_expression(w: &mut Writer, input: &Input, word: &[u8], place: Place, h: HelperTemplate)
+    ensures { Wrote (word.now ++ (write_field (place_field (place_means place)) ++ (ascii "\n" ++ (write_forms (helper_children input.now.text.now input.now.words.now (link_of h.from h.limit)) ++ ascii "]\n")))) w.old w.new }
 {
     w.put_bytes(word);
     write_place(w, place);
     w.put_bytes(b"\n");
-    w.write_helper(text, words, link_of(h.from, h.limit));
+    w.write_helper(input.text, input.words, link_of(h.from, h.limit));
     w.put_bytes(b"]\n");
 }
 
 // A block up to its body.
-fn write_block(
-    w: &mut Writer,
-    text: &[u8],
-    words: &[u32],
-    place: Place,
-    chain: bool,
-    h: HelperTemplate,
-)
-    ensures { Wrote (block_opening (place_field (place_means place)) chain (head_at text.now words.now h)) w.old w.new }
+fn write_block(w: &mut Writer, input: &Input, place: Place, chain: bool, h: HelperTemplate)
+    ensures { Wrote (block_opening (place_field (place_means place)) chain (head_at input.now.text.now input.now.words.now h)) w.old w.new }
 {
     w.put_bytes(b"[block ");
     write_place(w, place);
     write_bit(w, chain);
     write_bit(w, h.indent_before_write);
     w.put_bytes(b"\n");
-    w.write_helper(text, words, link_of(h.from, h.limit));
+    w.write_helper(input.text, input.words, link_of(h.from, h.limit));
     w.put_bytes(b"[body\n");
 }
 
 // A decorator or a partial, from its word up to its end or its body.
-fn write_decorated(
-    w: &mut Writer,
-    text: &[u8],
-    words: &[u32],
-    word: &[u8],
-    place: Place,
-    d: DecoratorTemplate,
-)
-    ensures { Wrote (word.now ++ decorated_bytes text.now words.now (place_means place) d) w.old w.new }
+fn write_decorated(w: &mut Writer, input: &Input, word: &[u8], place: Place, d: DecoratorTemplate)
+    ensures { Wrote (word.now ++ decorated_bytes input.now.text.now input.now.words.now (place_means place) d) w.old w.new }
 {
     w.put_bytes(word);
     write_place(w, place);
     write_bit(w, d.indent_before_write);
-    write_indent(w, text, d);
+    write_indent(w, input.text, d);
     w.put_bytes(b"\n");
-    w.write_decorator(text, words, link_of(d.from, d.limit));
+    w.write_decorator(input.text, input.words, link_of(d.from, d.limit));
 }
 
 // An element up to its body, if it has one. What is written is short, so that no listing is too long to be
 // counted.
-pub(crate) fn write_element(w: &mut Writer, text: &[u8], words: &[u32], e: Element)
-    requires { Good text.now words.now × Sound text.now words.now e.name e.element }
-    ensures { Wrote (opening text.now words.now e) w.old w.new × (length (opening text.now words.now e) ≤ 11000000000) }
+pub(crate) fn write_element(w: &mut Writer, input: &Input, e: Element)
+    requires { Sound input.now.text.now input.now.words.now e.name e.element }
+    ensures { Wrote (opening input.now.text.now input.now.words.now e) w.old w.new × (length (opening input.now.text.now input.now.words.now e) ≤ 11000000000) }
 {
     let p = e.place;
     match e.element {
         TemplateElement::Empty => {}
-        TemplateElement::RawString(r) => write_text(w, text, words, p, r),
-        TemplateElement::Comment(c) => write_comment(w, text, p, c),
-        TemplateElement::Expression(h) => write_expression(w, text, words, b"[expr ", p, h),
-        TemplateElement::HtmlExpression(h) => write_expression(w, text, words, b"[html ", p, h),
-        TemplateElement::HelperBlock(h) => write_block(w, text, words, p, e.chain, h),
+        TemplateElement::RawString(r) => write_text(w, input, p, r),
+        TemplateElement::Comment(c) => write_comment(w, input.text, p, c),
+        TemplateElement::Expression(h) => write_expression(w, input, b"[expr ", p, h),
+        TemplateElement::HtmlExpression(h) => write_expression(w, input, b"[html ", p, h),
+        TemplateElement::HelperBlock(h) => write_block(w, input, p, e.chain, h),
         TemplateElement::DecoratorExpression(d) => {
-            write_decorated(w, text, words, b"[decor ", p, d);
+            write_decorated(w, input, b"[decor ", p, d);
             w.put_bytes(b"]\n");
         }
         TemplateElement::PartialExpression(d) => {
-            write_decorated(w, text, words, b"[partial ", p, d);
+            write_decorated(w, input, b"[partial ", p, d);
             w.put_bytes(b"]\n");
         }
         TemplateElement::DecoratorBlock(d) => {
-            write_decorated(w, text, words, b"[decor-block ", p, d);
+            write_decorated(w, input, b"[decor-block ", p, d);
             w.put_bytes(b"[body\n");
         }
         TemplateElement::PartialBlock(d) => {
-            write_decorated(w, text, words, b"[partial-block ", p, d);
+            write_decorated(w, input, b"[partial-block ", p, d);
             w.put_bytes(b"[body\n");
         }
     }

@@ -1,11 +1,11 @@
 // The listing of the tree that the store holds.
 ghost use Rattle.std.specs.Prelude.{◌≡◌, ◌+◌, ◌-◌, ◌≤◌, ◌<◌, length, slice_set};
-ghost use Rattle.template.specs.Element.{Good};
 ghost use Rattle.template.specs.Opening.{top_of};
 ghost use Rattle.template.specs.Store.{Stored};
 ghost use Rattle.template.specs.Finish.{TreeIs};
 
 use crate::element::Element;
+use crate::input::Input;
 use crate::list::{Waiting, has_else, write_element, write_end};
 use listing::writer::Writer;
 
@@ -44,15 +44,13 @@ impl<'a> Waits<'a> {
 // there are elements. What the output has no room for is only counted.
 pub(crate) fn write_tree<const N: usize>(
     out: &mut [u8],
-    text: &[u8],
-    words: &[u32],
+    input: &Input,
     elements: &[Element; N],
     first: usize,
 ) -> usize
-    requires good { Good text.now words.now }
     requires size { N ≤ 8193 }
-    requires stored { Stored text.now words.now elements.now first }
-    ensures { TreeIs text.now words.now elements.now first out.old out.new result }
+    requires stored { Stored input.now.text.now input.now.words.now elements.now first }
+    ensures { TreeIs input.now.text.now input.now.words.now elements.now first out.old out.new result }
 {
     let mut blocks = [Waiting::EMPTY; N];
     let mut waits = Waits {
@@ -66,7 +64,7 @@ pub(crate) fn write_tree<const N: usize>(
     loop {
         if link > 0 {
             let e = elements[link];
-            write_element(&mut w, text, words, e);
+            write_element(&mut w, input, e);
             if e.has_body() {
                 waits.push(Waiting::new(link, false));
                 link = e.template;

@@ -84,5 +84,5 @@ pub(crate) fn walk<const N: usize>(input: &Input, out: &mut [u8]) -> Result<usiz
     let g = take_gap(rest, b.len);
     elements[b.len] = g.made;
     let top = join(&mut elements, b.top, g.join);
-    Ok(write_tree(out, input.text, input.words, &elements, top.first))
+    Ok(write_tree(out, input, &elements, top.first))
 }

@@ -8,6 +8,6 @@ use Rattle.template.proofs.list.write_block.Goals as goal
 
 pub returns : goal.returns
 returns c =
-    let w = ap (λ z. write_forms (helper_children c.args.text.now c.args.words.now z)) (sym c.link_of.ensures) in
+    let w = ap (λ z. write_forms (helper_children c.args.input.now.text.now c.args.input.now.words.now z)) (sym c.link_of.ensures) in
     rw (elements.block_bytes_lem _ _ _ _ _)
     (wrote_then c.put_bytes.ensures (wrote_then c.write_place.ensures (wrote_then c.write_bit.ensures (wrote_then c.write_bit-2.ensures (wrote_then c.put_bytes-2.ensures (wrote_then (elements.bytes_are w c.write_helper.ensures) c.put_bytes-3.ensures))))))

@@ -10,5 +10,5 @@ use Rattle.template.proofs.list.write_decorated.Goals as goal
 pub returns : goal.returns
 unfolding decorated_bytes
 returns c =
-    let w = ap (λ z. write_forms (decorator_children c.args.text.now c.args.words.now z)) (sym c.link_of.ensures) in
+    let w = ap (λ z. write_forms (decorator_children c.args.input.now.text.now c.args.input.now.words.now z)) (sym c.link_of.ensures) in
     wrote_then c.put_bytes.ensures (wrote_then c.write_place.ensures (wrote_then c.write_bit.ensures (wrote_then c.write_indent.ensures (wrote_then c.put_bytes-2.ensures (elements.bytes_are w c.write_decorator.ensures)))))

@@ -18,7 +18,7 @@ pub bounds-elements-link : goal.bounds-elements-link
 bounds-elements-link g c = pass.element_in c.loop-link.invariant c.if-link-gt0.true
 
 pub write_element-requires : goal.write_element-requires
-write_element-requires g c = (c.requires.good, pass.element_good c.loop-link.invariant c.if-link-gt0.true)
+write_element-requires g c = pass.element_good c.loop-link.invariant c.if-link-gt0.true
 
 pub push-requires : goal.push-requires
 push-requires g c = pass.depth_in c.loop-link.invariant c.if-link-gt0.true

@@ -68,7 +68,7 @@ write_tree-requires g c =
     let i = c.args.input.now in
     let rested : Rested i.text.now i.words.now i.options c.loop-b.elements c.loop-b.b.top c.loop-b.b.len c.loop-b.b.marks c.loop-b.b.here c.rest_of-rest.result c.take_gap-g.result =
     record { good = i.good; end = stages.list_ended c.loop-b.invariant c.name.ensures c.if-b.false (json.next_none c.in_default.is c.next_span.ensures) i.good c.unfinished.ensures c.if-unfinished.false; is = c.rest_of-rest.ensures; gap = c.take_gap-g.ensures } in
-    (omega (arith, c.requires.size.1), (i.good, (c.requires.size.1, finishing.ended_stored rested c.join-top.ensures)))
+    (omega (arith, c.requires.size.1), (c.requires.size.1, finishing.ended_stored rested c.join-top.ensures))
 
 pub returns : goal.returns
 returns g c =
