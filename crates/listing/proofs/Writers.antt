@@ -1,11 +1,8 @@
 -- Writing with a writer, one after the other; and a walk that writes: what writes the bytes that are left writes the whole. Assumes nothing.
 use Prim.Native.Nat.{ℕ, ◌+◌, ◌/◌, ◌%◌, ◌≤◌, ◌<◌}
 use native.Mathlib.Omega.{arith}
-use native.Mathlib.Numerals.{add-one}
 use mathlib.Core.Path.{◌≡◌, refl, subst, ◌∙◌}
 use mathlib.Core.List.{[], ◌∷◌, ◌++◌, append-nil}
-use lib.ListN.{length, get_or, take}
-use lib.Seq.{take-suc, take_all}
 use Rattle.support.specs.Bytes.{Bytes}
 use Rattle.listing.specs.Quoted.{escape, escaped, quoted, decimal}
 use Rattle.listing.specs.Wrote.{Wrote}
@@ -39,16 +36,6 @@ pub onward_end : {w : Bytes} {a b : Writer} → Onward w [] a b → Wrote w a b
 onward_end {b = b} o = o b (wrote_none b)
 
 -- ---- quoted text
-
-pub escaped_more : {a b c : Writer} (s : Bytes) (i : ℕ) → i < length s → Wrote (escaped (take i s)) a b → Wrote (escape (get_or s i 0)) b c
-    → Wrote (escaped (take (i + 1) s)) a c
-unfolding escaped
-escaped_more s i k f g =
-    let b' = get_or s i 0 in
-    rw (add-one i, take-suc s i 0 k, escaped_append (take i s) (b' ∷ []), append-nil (escape b')) (wrote_then f g)
-
-pub escaped_all : {a b : Writer} (s : Bytes) (i : ℕ) → length s ≤ i → Wrote (escaped (take i s)) a b → Wrote (escaped s) a b
-escaped_all s i h w = rw (take_all i s h) at w
 
 -- the next bytes of a text, written as quoted text has them; so a run that has no escape, and one byte
 module _ {a b c : Writer} {s rest : Bytes} (p : Passed (λ x. Wrote (escaped x) a b) s rest) where

@@ -89,6 +89,17 @@ unfolding escaped
 escaped_append [] t = refl
 escaped_append (c ∷ s) t = ap (escape c ++◌) (escaped_append s t) ∙ sym (append_assoc (escape c) (escaped s) (escaped t))
 
+pub escaped_more : {l m n : Bytes} {at p r : ℕ} (s : Bytes) (i : ℕ) → length l ≤ largest → i < length s → Written (escaped (take i s)) l at m p
+    → Written (escape (get_or s i 0)) m p n r
+    → Written (escaped (take (i + 1) s)) l at n r
+unfolding escaped
+escaped_more s i h k a b =
+    let b' = get_or s i 0 in
+    rw (add-one i, take-suc s i 0 k, escaped_append (take i s) (b' ∷ []), append-nil (escape b')) (written_then h a b)
+
+pub escaped_all : {l m : Bytes} {at p : ℕ} (s : Bytes) (i : ℕ) → length s ≤ i → Written (escaped (take i s)) l at m p → Written (escaped s) l at m p
+escaped_all s i h a = rw (take_all i s h) at a
+
 -- bytes that have no escape
 pub plain_escaped : (s : Bytes) (r : ℕ) → r ≤ length s → ((k : ℕ) → k < r → escape (get_or s k 0) ≡ get_or s k 0 ∷ []) → escaped (take r s) ≡ take r s
 unfolding escaped
