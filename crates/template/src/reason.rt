@@ -255,6 +255,8 @@ pub(crate) fn too_many_open(tag: u32, count: usize) -> bool
 }
 
 // Equal names, two without a name included.
+// Stays: three cases. With `==` over the two texts as Options the proof would go through std's comparison of each
+// byte, and be longer than these.
 fn same_name(text: &[u8], a: Option<Name>, b: Option<Name>) -> bool
     ensures { result ≡ same_name (as_name_means text.now a) (as_name_means text.now b) }
 {
