@@ -192,5 +192,6 @@ module _ (text : Bytes) (words : List ℕ) (c : Cut) where
           record { pieces = rw l (pieces_join text c.start e r x f.0 (rw (add-one x.start) at p)) }
       go false q p = record { pieces = rw (escapes_none words c (ltb-false c.first c.last q)) p }
 
-  pub start_inside : CutGood text words c → piece_start words c ≤ length text
-  start_inside g = let p = last_piece g in omega (arith, p.order, p.inside)
+  -- the byte before it stands in the text
+  pub start_byte : CutGood text words c → c.first < c.last → (span_at words (c.last - 1)).start < length text
+  start_byte g h = let p = last_piece g in omega (arith, p.order, p.inside, start_more words c h)

@@ -36,11 +36,11 @@ module _ {text : Bytes} {words : List ℕ} {t : Bytes} {c : Cut} (s : CutIs text
   pub skip_next : {end : ℕ} {r : Cut} → end ≡ piece_end words c → c.first < c.last → end ≤ c.start → r ≡ without_first c end → CutIs text words t r
   skip_next {end} {r} e h k q = rw (q, e) (skip_on h (rw e at k))
 
-pub skip_none : {text : Bytes} {words : List ℕ} {d c : Cut} → CutIs text words (cut_means text words d) c → c.last ≤ c.first → Skipped text words d c
+pub skip_none : {text : Bytes} {words : List ℕ} {t : Bytes} {c : Cut} → CutIs text words t c → c.last ≤ c.first → Skipped text words t c
 skip_none s h = record { is = s; byte = λ k. absurd (omega arith) }
 
-pub skip_found : {text : Bytes} {words : List ℕ} {d c : Cut} {end : ℕ} → CutIs text words (cut_means text words d) c → end ≡ piece_end words c → c.start < end
-    → Skipped text words d c
+pub skip_found : {text : Bytes} {words : List ℕ} {t : Bytes} {c : Cut} {end : ℕ} → CutIs text words t c → end ≡ piece_end words c → c.start < end
+    → Skipped text words t c
 skip_found s e h = record { is = s; byte = λ k. omega arith }
 
 -- ---- the first newline
@@ -74,7 +74,7 @@ strip_lone_byte : (b : ℕ) (s : Bytes) → (b ≡ 10 → ⊥) → strip_first_n
 unfolding strip_first_newline
 strip_lone_byte b s h = rw (ne_eqb b 10 h)
 
-module _ {text : Bytes} {words : List ℕ} {d c : Cut} (s : Skipped text words d c) where
+module _ {text : Bytes} {words : List ℕ} {t : Bytes} {c : Cut} (s : Skipped text words t c) where
   there : c.start < c.end → c.start < piece_end words c
   there h = go (ltb c.first c.last) refl
     where
@@ -83,7 +83,7 @@ module _ {text : Bytes} {words : List ℕ} {d c : Cut} (s : Skipped text words d
       go false e = let q = end_none words c (ltb-false c.first c.last e) in omega arith
 
   -- the first byte before the others, and none at the end
-  first_byte : c.start < c.end → cut_means text words d ≡ get_or text c.start 0 ∷ cut_means text words (from_start c (c.start + 1))
+  first_byte : c.start < c.end → t ≡ get_or text c.start 0 ∷ cut_means text words (from_start c (c.start + 1))
   first_byte h =
       let p = first_piece text words c s.is.good in
       let e = piece_end words c in
@@ -94,13 +94,13 @@ module _ {text : Bytes} {words : List ℕ} {d c : Cut} (s : Skipped text words d
       ∙ ap (λ i. get_or text c.start 0 ∷ (part text i e ++ rest_means text words c)) (sym (add-one c.start))
       ∙ ap (get_or text c.start 0 ∷◌) (sym (split_front text words c (c.start + 1)))
 
-  no_byte : c.end ≤ c.start → cut_means text words d ≡ []
+  no_byte : c.end ≤ c.start → t ≡ []
   no_byte h = go (ltb c.first c.last) refl
     where
       g : CutGood text words c
       g = s.is.good
 
-      go : (u : Bool) → ltb c.first c.last ≡ u → cut_means text words d ≡ []
+      go : (u : Bool) → ltb c.first c.last ≡ u → t ≡ []
       go true e =
           let l = ltb-true c.first c.last e in
           let k = s.byte l in
@@ -129,13 +129,13 @@ module _ {text : Bytes} {words : List ℕ} {d c : Cut} (s : Skipped text words d
         valid = rw (add-one c.start) (ascii_first b u (one u) (rw r at p.valid));
       })
 
-module _ {text : Bytes} {words : List ℕ} {d c : Cut} (s : Skipped text words d c) where
-  pub strip_empty : c.end ≤ c.start → CutIs text words (strip_first_newline (cut_means text words d)) c
+module _ {text : Bytes} {words : List ℕ} {t : Bytes} {c : Cut} (s : Skipped text words t c) where
+  pub strip_empty : c.end ≤ c.start → CutIs text words (strip_first_newline t) c
   unfolding strip_first_newline
   strip_empty h = let q = no_byte s h in record { good = s.is.good; means = s.is.means ∙ q ∙ sym (ap strip_first_newline q) }
 
   pub strip_feed : {r : Cut} → c.start < c.end → get_or text c.start 0 ≡ 10 → r ≡ from_start c (c.start + 1)
-      → CutIs text words (strip_first_newline (cut_means text words d)) r
+      → CutIs text words (strip_first_newline t) r
   strip_feed {r} h e q =
       let u = cut_means text words (from_start c (c.start + 1)) in
       rw q (record {
@@ -144,7 +144,7 @@ module _ {text : Bytes} {words : List ℕ} {d c : Cut} (s : Skipped text words d
       })
 
   pub strip_other : c.start < c.end → (get_or text c.start 0 ≡ 10 → ⊥) → (get_or text c.start 0 ≡ 13 → ⊥)
-      → CutIs text words (strip_first_newline (cut_means text words d)) c
+      → CutIs text words (strip_first_newline t) c
   strip_other h a b =
       let u = cut_means text words (from_start c (c.start + 1)) in
       let q = first_byte s h in
@@ -158,29 +158,30 @@ module _ {text : Bytes} {words : List ℕ} {d c : Cut} (s : Skipped text words d
     pub return_good : CutGood text words k
     return_good = rw q (good_after s 13 return_char e h)
 
-    after_return : cut_means text words d ≡ 13 ∷ cut_means text words k
+    after_return : t ≡ 13 ∷ cut_means text words k
     after_return = rw q (first_byte s h ∙ ap (◌∷ cut_means text words (from_start c (c.start + 1))) e)
 
-module _ {text : Bytes} {words : List ℕ} {d c k f : Cut} (s : Skipped text words d c)
-    (h : c.start < c.end) (e : get_or text c.start 0 ≡ 13) (q : k ≡ from_start c (c.start + 1)) (r : Skipped text words k f) where
+module _ {text : Bytes} {words : List ℕ} {t : Bytes} {c k : Cut} (s : Skipped text words t c)
+    (h : c.start < c.end) (e : get_or text c.start 0 ≡ 13) (q : k ≡ from_start c (c.start + 1))
+    {text₁ : Bytes} {words₁ : List ℕ} {f : Cut} (r : Skipped text₁ words₁ (cut_means text words k) f) where
   -- a lone CR stays
-  pub return_end : f.end ≤ f.start → CutIs text words (strip_first_newline (cut_means text words d)) c
+  pub return_end : f.end ≤ f.start → CutIs text words (strip_first_newline t) c
   unfolding strip_first_newline
   return_end z =
-      let p : cut_means text words d ≡ 13 ∷ [] = after_return s h e q ∙ ap (13 ∷◌) (no_byte r z) in
+      let p : t ≡ 13 ∷ [] = after_return s h e q ∙ ap (13 ∷◌) (no_byte r z) in
       record { good = s.is.good; means = s.is.means ∙ p ∙ sym (ap strip_first_newline p) }
 
-  pub return_other : f.start < f.end → (get_or text f.start 0 ≡ 10 → ⊥) → CutIs text words (strip_first_newline (cut_means text words d)) c
+  pub return_other : f.start < f.end → (get_or text₁ f.start 0 ≡ 10 → ⊥) → CutIs text words (strip_first_newline t) c
   return_other z n =
-      let b = get_or text f.start 0 in
-      let u = cut_means text words (from_start f (f.start + 1)) in
-      let p : cut_means text words d ≡ 13 ∷ b ∷ u = after_return s h e q ∙ ap (13 ∷◌) (first_byte r z) in
+      let b = get_or text₁ f.start 0 in
+      let u = cut_means text₁ words₁ (from_start f (f.start + 1)) in
+      let p : t ≡ 13 ∷ b ∷ u = after_return s h e q ∙ ap (13 ∷◌) (first_byte r z) in
       record { good = s.is.good; means = s.is.means ∙ p ∙ sym (ap strip_first_newline p ∙ strip_lone_byte b u n) }
 
-  pub return_feed : {m : Cut} → f.start < f.end → get_or text f.start 0 ≡ 10 → m ≡ from_start f (f.start + 1)
-      → CutIs text words (strip_first_newline (cut_means text words d)) m
+  pub return_feed : {m : Cut} → f.start < f.end → get_or text₁ f.start 0 ≡ 10 → m ≡ from_start f (f.start + 1)
+      → CutIs text₁ words₁ (strip_first_newline t) m
   unfolding strip_first_newline
   return_feed {m} z n w =
-      let u = cut_means text words (from_start f (f.start + 1)) in
-      let p : cut_means text words d ≡ 13 ∷ 10 ∷ u = after_return s h e q ∙ ap (13 ∷◌) (first_byte r z ∙ ap (◌∷ u) n) in
+      let u = cut_means text₁ words₁ (from_start f (f.start + 1)) in
+      let p : t ≡ 13 ∷ 10 ∷ u = after_return s h e q ∙ ap (13 ∷◌) (first_byte r z ∙ ap (◌∷ u) n) in
       rw w (record { good = good_after r 10 feed_char n z; means = sym (ap strip_first_newline p) })

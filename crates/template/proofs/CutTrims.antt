@@ -1,16 +1,17 @@
--- Trimming a cut piece by piece: a first piece that is all trimmed goes, with the removed byte behind it, and so does a last one. Assumes nothing.
+-- Trimming a cut piece by piece: a first piece that is all trimmed goes, with the removed byte after it, and so does a last one. Assumes nothing.
 use Prim.Native.Nat.{ℕ, ◌+◌, ◌-◌, ◌≤◌, ◌<◌}
 use native.Mathlib.Omega.{arith}
 use mathlib.Core.Path.{◌≡◌, refl, sym, ap, subst, ◌∙◌}
 use mathlib.Core.List.{List, [], ◌∷◌, ◌++◌, append-nil}
 use mathlib.Core.Bool.{Bool}
+use mathlib.Core.Logic.{◌⊎◌, inl, inr}
 use lib.ListN.{length}
 use Rattle.support.specs.Bytes.{Bytes, if, part, is_empty}
 use Rattle.support.proofs.ByteLaws.{no_bytes}
 use Rattle.template.specs.Raw.{cut_means, Piece, CutGood, CutIs, piece_end, piece_start, from_start, to_end, without_first, without_last, start_trim, end_trim}
 use Rattle.template.specs.declared.raw.Cut.{Cut}
 use Rattle.template.proofs.PieceTrims.{part_length, part_empty, start_left, end_left, start_join_by, end_join_by, start_trimmed, start_piece, end_trimmed, end_piece}
-use Rattle.template.proofs.CutLaws.{rest_means, rest_more, rest_none, split_front, first_piece, start_good, rest_good, front_means, front_more, front_none, split_back, last_piece, front_good, end_good}
+use Rattle.template.proofs.CutLaws.{rest_means, rest_more, rest_none, split_front, first_piece, start_good, front_means, front_more, front_none, split_back, last_piece, end_good}
 
 empty_if : {A : Type 0} (s : Bytes) (x y : A) → length s ≡ 0 → if (is_empty s) x y ≡ x
 empty_if [] x y e = refl
@@ -119,68 +120,52 @@ module _ {text : Bytes} {words : List ℕ} (w : Bool) (c : Cut) (g : CutGood tex
             ∙ sym (joined_back ∙ empty_if s (end_trim w (front_means text words c)) (front_means text words c ++ s) z);
       }
 
--- ---- the loops: what is trimmed of c is what is trimmed of the cut c₀ at the start
+-- ---- the loops: what is trimmed of c is t, what is trimmed of the cut at the start
 
-pub record Fronting (text : Bytes) (words : List ℕ) (w : Bool) (c₀ c : Cut) : Type 0 where
-  pub good : CutGood text words c
-  pub same : start_trim w (cut_means text words c) ≡ start_trim w (cut_means text words c₀)
-
-module _ {text : Bytes} {words : List ℕ} {w : Bool} {c₀ c : Cut} (g : Fronting text words w c₀ c)
+module _ {text : Bytes} {words : List ℕ} (w : Bool) {t : Bytes} {c : Cut} (g : CutGood text words c) (m : start_trim w (cut_means text words c) ≡ t)
     {end left : ℕ} {s : Bytes} (e : end ≡ piece_end words c) (p : s ≡ part text c.start end) (l : left ≡ length (start_trim w s)) where
   front_size : left ≡ length (start_trim w (part text c.start (piece_end words c)))
   front_size = l ∙ ap (λ u. length (start_trim w u)) (p ∙ ap (part text c.start) e)
 
   pub fronting_fits : left ≤ end
   fronting_fits =
-      let k = first_piece text words c g.good in
+      let k = first_piece text words c g in
       let n = part_length text c.start (piece_end words c) k.order k.inside in
       omega (arith, front_size, e, n, (start_left w (part text c.start (piece_end words c))).0)
 
-  pub fronting_found : {r : Cut} → 0 < left → r ≡ from_start c (end - left) → CutIs text words (start_trim w (cut_means text words c₀)) r
-  fronting_found {r} h q =
-      let k = front_some w c g.good (rw front_size at h) in
-      rw (q, e, front_size) (record { good = k.good; means = k.means ∙ g.same })
+  pub fronting_done : {r : Cut} → (0 < left) ⊎ ((left ≤ 0) × (c.last ≤ c.first)) → r ≡ from_start c (end - left) → CutIs text words t r
+  fronting_done {r} (inl h) q =
+      let k = front_some w c g (rw front_size at h) in
+      rw (q, e, front_size) (record { good = k.good; means = k.means ∙ m })
+  fronting_done {r} (inr h) q =
+      let k = front_end w c g (omega (arith, h.0, front_size)) h.1 in
+      let d : end - left ≡ end = omega (arith, h.0) in
+      rw (q, d, e) (record { good = k.good; means = k.means ∙ m })
 
-  pub fronting_end : {r : Cut} → left ≤ 0 → c.last ≤ c.first → r ≡ from_start c end → CutIs text words (start_trim w (cut_means text words c₀)) r
-  fronting_end {r} z h q =
-      let k = front_end w c g.good (omega (arith, front_size)) h in
-      rw (q, e) (record { good = k.good; means = k.means ∙ g.same })
-
-  pub fronting_on : {r : Cut} → left ≤ 0 → c.first < c.last → r ≡ without_first c end → Fronting text words w c₀ r
+  pub fronting_on : {r : Cut} → left ≤ 0 → c.first < c.last → r ≡ without_first c end → start_trim w (cut_means text words r) ≡ t
   fronting_on {r} z h q =
-      rw (q, e) (record {
-        good = rest_good text words c h g.good;
-        same = sym (front_on w c g.good (omega (arith, front_size)) h) ∙ g.same;
-      })
+      rw (q, e) (sym (front_on w c g (omega (arith, front_size)) h) ∙ m)
 
-pub record Backing (text : Bytes) (words : List ℕ) (w : Bool) (c₀ c : Cut) : Type 0 where
-  pub good : CutGood text words c
-  pub same : end_trim w (cut_means text words c) ≡ end_trim w (cut_means text words c₀)
-
-module _ {text : Bytes} {words : List ℕ} {w : Bool} {c₀ c : Cut} (g : Backing text words w c₀ c)
+module _ {text : Bytes} {words : List ℕ} (w : Bool) {t : Bytes} {c : Cut} (g : CutGood text words c) (m : end_trim w (cut_means text words c) ≡ t)
     {start left : ℕ} {s : Bytes} (e : start ≡ piece_start words c) (p : s ≡ part text start c.end) (l : left ≡ length (end_trim w s)) where
   back_size : left ≡ length (end_trim w (part text (piece_start words c) c.end))
   back_size = l ∙ ap (λ u. length (end_trim w u)) (p ∙ ap (λ i. part text i c.end) e)
 
   pub backing_fits : start + left ≤ length text
   backing_fits =
-      let k = last_piece text words c g.good in
+      let k = last_piece text words c g in
       let n = part_length text (piece_start words c) c.end k.order k.inside in
       omega (arith, back_size, e, n, k.order, k.inside, (end_left w (part text (piece_start words c) c.end)).0)
 
-  pub backing_found : {r : Cut} → 0 < left → r ≡ to_end c (start + left) → CutIs text words (end_trim w (cut_means text words c₀)) r
-  backing_found {r} h q =
-      let k = back_some w c g.good (rw back_size at h) in
-      rw (q, e, back_size) (record { good = k.good; means = k.means ∙ g.same })
+  pub backing_done : {r : Cut} → (0 < left) ⊎ ((left ≤ 0) × (c.last ≤ c.first)) → r ≡ to_end c (start + left) → CutIs text words t r
+  backing_done {r} (inl h) q =
+      let k = back_some w c g (rw back_size at h) in
+      rw (q, e, back_size) (record { good = k.good; means = k.means ∙ m })
+  backing_done {r} (inr h) q =
+      let k = back_end w c g (omega (arith, h.0, back_size)) h.1 in
+      let d : start + left ≡ start = omega (arith, h.0) in
+      rw (q, d, e) (record { good = k.good; means = k.means ∙ m })
 
-  pub backing_end : {r : Cut} → left ≤ 0 → c.last ≤ c.first → r ≡ to_end c start → CutIs text words (end_trim w (cut_means text words c₀)) r
-  backing_end {r} z h q =
-      let k = back_end w c g.good (omega (arith, back_size)) h in
-      rw (q, e) (record { good = k.good; means = k.means ∙ g.same })
-
-  pub backing_on : {r : Cut} → left ≤ 0 → c.first < c.last → r ≡ without_last c start → Backing text words w c₀ r
+  pub backing_on : {r : Cut} → left ≤ 0 → c.first < c.last → r ≡ without_last c start → end_trim w (cut_means text words r) ≡ t
   backing_on {r} z h q =
-      rw (q, e) (record {
-        good = front_good text words c h g.good;
-        same = sym (back_on w c g.good (omega (arith, back_size)) h) ∙ g.same;
-      })
+      rw (q, e) (sym (back_on w c g (omega (arith, back_size)) h) ∙ m)

@@ -8,41 +8,39 @@ use Rattle.listing.specs.Wrote.{Wrote}
 use Rattle.listing.specs.declared.writer.Writer.{Writer}
 use Rattle.listing.proofs.Writes.{escaped_append}
 use Rattle.listing.proofs.Writers.{wrote_none, wrote_then}
-use Rattle.template.specs.Raw.{cut_means, CutGood, piece_end, without_first}
+use Rattle.template.specs.Raw.{cut_means, piece_end, without_first}
 use Rattle.template.specs.declared.raw.Cut.{Cut}
-use Rattle.template.proofs.CutLaws.{rest_means, rest_more, rest_none, split_front, rest_good}
+use Rattle.template.proofs.CutLaws.{rest_means, rest_more, rest_none, split_front}
 
-pub record Writing (text : Bytes) (words : List ℕ) (c₀ : Cut) (a : Writer) (c : Cut) (b : Writer) : Type 0 where
+pub record Writing (text : Bytes) (words : List ℕ) (t : Bytes) (a : Writer) (c : Cut) (b : Writer) : Type 0 where
   pub done : Bytes
   pub written : Wrote (escaped done) a b
-  pub whole : cut_means text words c₀ ≡ done ++ cut_means text words c
-  pub good : CutGood text words c
+  pub whole : t ≡ done ++ cut_means text words c
 
-pub writing_start : {text : Bytes} {words : List ℕ} {c : Cut} {a : Writer} → CutGood text words c → Writing text words c a c a
+pub writing_start : {text : Bytes} {words : List ℕ} {c : Cut} {a : Writer} → Writing text words (cut_means text words c) a c a
 unfolding escaped
-writing_start {a = a} g = record { done = []; written = wrote_none a; whole = refl; good = g }
+writing_start {a = a} = record { done = []; written = wrote_none a; whole = refl }
 
-module _ {text : Bytes} {words : List ℕ} {c₀ : Cut} {a : Writer} {c : Cut} {b : Writer} (w : Writing text words c₀ a c b)
+module _ {text : Bytes} {words : List ℕ} {t : Bytes} {a : Writer} {c : Cut} {b : Writer} (w : Writing text words t a c b)
     {end : ℕ} {s : Bytes} {d : Writer} (e : end ≡ piece_end words c) (f : s ≡ part text c.start end) (g : Wrote (escaped s) b d) where
   more : Wrote (escaped (w.done ++ s)) a d
   more = rw (escaped_append w.done s) (wrote_then w.written g)
 
-  split : cut_means text words c₀ ≡ (w.done ++ s) ++ rest_means text words c
+  split : t ≡ (w.done ++ s) ++ rest_means text words c
   split =
       w.whole
       ∙ ap (w.done ++◌) (split_front text words c c.start ∙ ap (◌++ rest_means text words c) (sym (f ∙ ap (part text c.start) e)))
       ∙ sym (append_assoc w.done s (rest_means text words c))
 
-  pub writing_end : c.last ≤ c.first → Wrote (escaped (cut_means text words c₀)) a d
+  pub writing_end : c.last ≤ c.first → Wrote (escaped t) a d
   writing_end k =
-      let q : cut_means text words c₀ ≡ w.done ++ s = split ∙ ap ((w.done ++ s) ++◌) (rest_none text words c k) ∙ append-nil (w.done ++ s) in
+      let q : t ≡ w.done ++ s = split ∙ ap ((w.done ++ s) ++◌) (rest_none text words c k) ∙ append-nil (w.done ++ s) in
       rw q more
 
-  pub writing_on : {n : Cut} → c.first < c.last → n ≡ without_first c end → Writing text words c₀ a n d
+  pub writing_on : {n : Cut} → c.first < c.last → n ≡ without_first c end → Writing text words t a n d
   writing_on {n} k q =
       rw (q, e) (record {
         done = w.done ++ s;
         written = more;
         whole = split ∙ ap ((w.done ++ s) ++◌) (rest_more text words c k);
-        good = rest_good text words c k w.good;
       })

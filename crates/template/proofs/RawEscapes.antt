@@ -207,8 +207,9 @@ raw_cut {text} {words} {r} g w q e =
     }
 
 -- both trims of it give the text's meaning
-pub raw_means_lem : {text : Bytes} {words : List ℕ} {whole d c : Cut} (r : RawString) → CutIs text words (unescaped text r.start r.end (raw_escapes text words r)) whole
-    → CutIs text words (front_trim r.front (cut_means text words whole)) d → CutIs text words (back_trim r.back (cut_means text words d)) c
-    → cut_means text words c ≡ raw_means text words r
+pub raw_means_lem : {text text₁ text₂ : Bytes} {words words₁ words₂ : List ℕ} {whole d c : Cut} (r : RawString)
+    → CutIs text words (unescaped text r.start r.end (raw_escapes text words r)) whole
+    → CutIs text₁ words₁ (front_trim r.front (cut_means text words whole)) d → CutIs text₂ words₂ (back_trim r.back (cut_means text₁ words₁ d)) c
+    → cut_means text₂ words₂ c ≡ raw_means text words r
 unfolding raw_means
 raw_means_lem r w f b = b.means ∙ ap (back_trim r.back) (f.means ∙ ap (front_trim r.front) w.means)

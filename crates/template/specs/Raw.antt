@@ -1,4 +1,6 @@
 -- What a cut of the text denotes: its bytes without the first bytes of its escapes. The pieces between them are whole characters.
+use mathlib.Core.HLevel.{×_prop}
+use denote.Struct.Props.{props}
 use Rattle.std.specs.Prelude.{ℕ, zero, suc, ◌+◌, ◌-◌, ◌≤◌, ◌<◌, ◌≡◌, List, [], ◌∷◌, Bool, ltb, length}
 use Rattle.support.specs.Bytes.{Bytes, if, part}
 use Rattle.support.specs.Utf8.{Valid}
@@ -34,6 +36,14 @@ Pieces text a e (x ∷ r) = Piece text a x.start × Pieces text (suc x.start) e 
 pub record CutGood (text : Bytes) (words : List ℕ) (c : Cut) : Type 0 where
   pub pieces : Pieces text c.start c.end (cut_escapes words c)
 
+-- A cut is good in one way at most, as a fact must be that a struct holds.
+pieces_prop : (text : Bytes) (a e : ℕ) (xs : List Span) → IsProp (Pieces text a e xs)
+pieces_prop text a e [] = hlevel props
+pieces_prop text a e (x ∷ r) = ×_prop (hlevel props) (pieces_prop text (suc x.start) e r)
+
+pub CutGood-prop : (text : Bytes) (words : List ℕ) (c : Cut) → IsProp (CutGood text words c)
+CutGood-prop text words c x y = λ i. record { pieces = pieces_prop text c.start c.end (cut_escapes words c) x.pieces y.pieces i }
+
 -- c is a good cut, and denotes t
 pub record CutIs (text : Bytes) (words : List ℕ) (t : Bytes) (c : Cut) : Type 0 where
   pub good : CutGood text words c
@@ -59,9 +69,9 @@ without_first c e = record { start = e + 1; end = c.end; first = c.first + 1; la
 abbrev pub without_last : Cut → ℕ → Cut
 without_last c a = record { start = c.start; end = a - 1; first = c.first; last = c.last - 1 }
 
--- r denotes what c does; and if it has an escape, a byte stands before that
-pub record Skipped (text : Bytes) (words : List ℕ) (c r : Cut) : Type 0 where
-  pub is : CutIs text words (cut_means text words c) r
+-- r denotes t; and if it has an escape, a byte stands before that
+pub record Skipped (text : Bytes) (words : List ℕ) (t : Bytes) (r : Cut) : Type 0 where
+  pub is : CutIs text words t r
   pub byte : r.first < r.last → r.start < piece_end words r
 
 -- the front, and the end, trimmed of White_Space or of blanks

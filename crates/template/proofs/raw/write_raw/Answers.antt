@@ -4,13 +4,13 @@ use Rattle.template.specs.Element.{raw_means}
 use Rattle.template.proofs.RawEscapes as escapes
 use Rattle.template.proofs.raw.write_raw.Goals as goal
 
-pub trimmed_front-requires : goal.trimmed_front-requires
-trimmed_front-requires c =
+pub invariant_of-whole : goal.invariant_of-whole
+invariant_of-whole c =
     let pre = c.requires in
-    (escapes.raw_cut pre.0 pre.1 c.last_escape.result c.last_escape.ensures).good
+    record { good = (escapes.raw_cut pre.0 pre.1 c.last_escape.result c.last_escape.ensures).good }
 
 pub returns : goal.returns
 returns c =
     let pre = c.requires in
-    let m = escapes.raw_means_lem c.args.r (escapes.raw_cut pre.0 pre.1 c.last_escape.result c.last_escape.ensures) c.trimmed_front.ensures c.trimmed_back-c.ensures in
-    quoted_done (raw_means c.args.text.now c.args.words.now c.args.r) c.put.ensures (rw m at c.write_cut.ensures) c.put-2.ensures
+    let m = escapes.raw_means_lem c.args.r (escapes.raw_cut pre.0 pre.1 c.last_escape.result c.last_escape.ensures) c.trimmed_front.ensures c.trimmed_back-trimmed.ensures in
+    quoted_done (raw_means c.args.text.now c.args.words.now c.args.r) c.put.ensures (rw m at c.write.ensures) c.put-2.ensures

@@ -1,11 +1,10 @@
 -- By how the front is trimmed. Assumes nothing.
 use mathlib.Core.Path.{refl}
-use Rattle.template.proofs.raw.trimmed_front.Goals as goal
+use Rattle.template.proofs.raw.Pieces.trimmed_front.Goals as goal
 
 pub returns-in-Kept : goal.returns-in-Kept
 returns-in-Kept c =
-    let pre = c.requires in
-    rw c.in-Kept.is (record { good = pre; means = refl })
+    rw c.in-Kept.is (record { good = c.args.self.now.good; means = refl })
 
 pub returns-in-White : goal.returns-in-White
 returns-in-White c = rw c.in-White.is c.trim_front.ensures
