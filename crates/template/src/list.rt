@@ -106,7 +106,7 @@ fn write_text(w: &mut Writer, input: &Input, place: Place, r: RawString)
     w.put_bytes(b"[text ");
     write_place(w, place);
     w.put_bytes(b" ");
-    write_raw(w, input.text, input.words, r);
+    write_raw(w, input, r);
     w.put_bytes(b"]\n");
 }
 

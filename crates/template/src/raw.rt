@@ -5,10 +5,11 @@ ghost use Rattle.json_path.specs.Span.{escapes_from};
 ghost use Rattle.listing.specs.Quoted.{escaped, quoted};
 ghost use Rattle.listing.specs.Wrote.{Wrote};
 ghost use Rattle.template.specs.Escapes.{escapes_to};
-ghost use Rattle.template.specs.Element.{Good, RawGood, raw_means, front_trim, back_trim};
+ghost use Rattle.template.specs.Element.{RawGood, raw_means, front_trim, back_trim};
 ghost use Rattle.template.specs.Raw.{numbered, cut_means, CutGood, CutGood-prop, CutIs, piece_end, piece_start, without_first, without_last, Skipped, start_trim, end_trim};
 
 use crate::element::{Back, Front, RawString};
+use crate::input::Input;
 use json_path::span::{escape_at, span_at};
 use listing::writer::Writer;
 use support::bytes::{byte_at, part};
@@ -269,17 +270,21 @@ impl<'a> Pieces<'a> {
 }
 
 // The text, quoted.
-pub(crate) fn write_raw(w: &mut Writer, text: &[u8], words: &[u32], r: RawString)
-    requires { Good text.now words.now × RawGood text.now words.now r }
-    ensures { Wrote (quoted (raw_means text.now words.now r)) w.old w.new }
+pub(crate) fn write_raw(w: &mut Writer, input: &Input, r: RawString)
+    requires { RawGood input.now.text.now input.now.words.now r }
+    ensures { Wrote (quoted (raw_means input.now.text.now input.now.words.now r)) w.old w.new }
 {
     let cut = Cut {
         start: r.start,
         end: r.end,
         first: r.escapes,
-        last: last_escape(words, r.escapes, r.end),
+        last: last_escape(input.words, r.escapes, r.end),
     };
-    let whole = Pieces { text, words, cut };
+    let whole = Pieces {
+        text: input.text,
+        words: input.words,
+        cut,
+    };
     let trimmed = whole.trimmed_front(r.front).trimmed_back(r.back);
     w.put(b'"');
     trimmed.write(w);

@@ -4,7 +4,7 @@ use Rattle.template.proofs.ElementWrites as elements
 use Rattle.template.proofs.list.write_text.Goals as goal
 
 pub write_raw-requires : goal.write_raw-requires
-write_raw-requires c = (c.args.input.now.good, c.requires)
+write_raw-requires c = c.requires
 
 pub returns : goal.returns
 returns c =

@@ -6,11 +6,11 @@ use Rattle.template.proofs.raw.write_raw.Goals as goal
 
 pub invariant_of-whole : goal.invariant_of-whole
 invariant_of-whole c =
-    let pre = c.requires in
-    record { good = (escapes.raw_cut pre.0 pre.1 c.last_escape.result c.last_escape.ensures).good }
+    let good = c.args.input.now.good in
+    record { good = (escapes.raw_cut good c.requires c.last_escape.result c.last_escape.ensures).good }
 
 pub returns : goal.returns
 returns c =
-    let pre = c.requires in
-    let m = escapes.raw_means_lem c.args.r (escapes.raw_cut pre.0 pre.1 c.last_escape.result c.last_escape.ensures) c.trimmed_front.ensures c.trimmed_back-trimmed.ensures in
-    quoted_done (raw_means c.args.text.now c.args.words.now c.args.r) c.put.ensures (rw m at c.write.ensures) c.put-2.ensures
+    let i = c.args.input.now in
+    let m = escapes.raw_means_lem c.args.r (escapes.raw_cut i.good c.requires c.last_escape.result c.last_escape.ensures) c.trimmed_front.ensures c.trimmed_back-trimmed.ensures in
+    quoted_done (raw_means i.text.now i.words.now c.args.r) c.put.ensures (rw m at c.write.ensures) c.put-2.ensures
