@@ -110,6 +110,7 @@ fn write_text(w: &mut Writer, input: &Input, place: Place, r: RawString)
     w.put_bytes(b"]\n");
 }
 
+// Stays: beside `write_text`, since what they quote is made in different ways; a closure for it would be no shorter.
 fn write_comment(w: &mut Writer, text: &[u8], place: Place, c: Comment)
     ensures { Wrote (write_form (item_form (place_field (place_means place)) (Tree.comment (comment_means text.now [] c)))) w.old w.new }
 {
