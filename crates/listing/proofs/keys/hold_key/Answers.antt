@@ -7,11 +7,6 @@ use Rattle.listing.proofs.Cells as cells
 use Rattle.listing.proofs.keys.hold_key.Goals as goal
 use Rattle.listing.proofs.keys.hold_key.Goals.{then-place-count+else-same_bytes, else-place-count}
 
-pub place_of-place-requires : goal.place_of-place-requires
-place_of-place-requires c =
-    let a = c.args in
-    cells.order_whole (entry_key a.text.now a.words.now) a.held.now a.count c.requires.1
-
 pub returns-then-same_bytes : goal.returns-then-same_bytes
 returns-then-same_bytes c =
     let a = c.args in

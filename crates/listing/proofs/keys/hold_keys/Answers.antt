@@ -1,26 +1,14 @@
 -- The loop holds the keys of the parts that it has passed. Assumes nothing.
-use native.Mathlib.Omega.{arith}
-use mathlib.Core.Path.{refl, ◌∙◌}
+use mathlib.Core.Path.{◌∙◌}
 use Rattle.std.proofs.Common.{rules}
 use Rattle.expression.proofs.Cases as cases
 use Rattle.listing.proofs.HeldKeys as laws
 use Rattle.listing.proofs.keys.hold_keys.Goals as goal
 
-pub loop-x-init : goal.loop-x-init
-loop-x-init c =
-    let a = c.args in
-    (laws.holding_begins a.text.now a.words.now a.parts a.held.now c.requires, refl)
-
-pub hold_part-requires : goal.hold_part-requires
-hold_part-requires c = let g = c.loop-x.invariant.0 in (g.fits, g.order)
-
 pub returns-in_err-count : goal.returns-in_err-count
 returns-in_err-count c =
     let i = (rw c.in-Ok-Some.field-0-is at c.in-Ok-Some.ensures).means in
     rw c.from_residual.ensures (record { means = laws.holding_full c.loop-x.invariant.0 c.in-Ok-Some.x i c.hold_part.auto.held c.in_err-count.ensures })
-
-pub loop-x-smaller : goal.loop-x-smaller
-loop-x-smaller c = let i = (rw c.in-Ok-Some.field-0-is at c.in-Ok-Some.ensures).means in omega arith
 
 pub loop-x-preserved : goal.loop-x-preserved
 loop-x-preserved c =

@@ -19,11 +19,6 @@ loop-rest-init c = counts.behind_none _ refl c.in-len1-up.len_at_least (omega ar
 pub block_cost-requires : goal.block_cost-requires
 block_cost-requires c = let n = length-take 33 c.loop-rest.rest.now in (omega arith, omega arith)
 
-pub loop-rest-smaller : goal.loop-rest-smaller
-loop-rest-smaller c =
-    let rest = c.loop-rest.rest.now in
-    omega (arith, length-take (length rest - 32) (drop 32 rest))
-
 pub loop-rest-preserved : goal.loop-rest-preserved
 loop-rest-preserved c =
     let rest = c.loop-rest.rest.now in

@@ -1,6 +1,5 @@
 -- `listing::write::escapes_in` meets its contract: the invariant says how many of the bytes passed have an escape. Assumes nothing.
 use native.Mathlib.Omega.{arith}
-use lib.Seq.{take_all}
 use Rattle.listing.specs.Quoted.{escaped}
 use Rattle.listing.proofs.Writes as writes
 use Rattle.listing.proofs.write.escapes_in.Goals as goal
@@ -15,7 +14,3 @@ loop-b-preserved c =
     let k = writes.escape_adds _ c.has_escape.result c.has_escape.ensures c.from-n.ensures in
     (omega arith, writes.escapes_byte c.args.block.now l.b-index (omega arith) l.invariant.1 k)
 
-pub returns : goal.returns
-returns c =
-    let l = c.loop-b in
-    rw (take_all l.b-index c.args.block.now (omega arith)) at l.invariant.1

@@ -1,20 +1,11 @@
 -- The state stands for the bytes that are left at the place: the plain ones are passed over, and then each turn takes one.
-use native.Mathlib.Omega.{arith}
 use mathlib.Core.Path.{sym, ap, ◌∙◌}
-use lib.ListN.{length}
 use Rattle.std.proofs.lemmas.Result.{err_from_is_err_and}
 use Rattle.literal.specs.Means.{error_means, verdict_means}
-use Rattle.literal.specs.Requote.{left}
 use Rattle.literal.proofs.PlainLaws as plain
 use Rattle.literal.proofs.QuoteLaws as quote
 use Rattle.literal.proofs.StateLaws as state
 use Rattle.literal.proofs.check.judge.Goals as goal
-
-pub loop-c-init : goal.loop-c-init
-loop-c-init c = let a = c.args in (state.begun_runs (left a.quoted a.text.now a.first) c.none.result c.none.ensures.1, record { deep = c.none.ensures.0; room = tt })
-
-pub feed-requires : goal.feed-requires
-feed-requires c = c.loop-c.invariant.1
 
 pub returns : goal.returns
 returns c =
@@ -35,13 +26,6 @@ returns-in_err-state c =
     ap verdict_means p.1 ∙ ap error_means p.2
     ∙ sym
     (quote.byte_taken a.quoted a.text.now there.result e c.next_byte.ensures c.in-Some.is c.feed.ensures c.in_err-state.was)
-
-pub loop-c-smaller : goal.loop-c-smaller
-loop-c-smaller c =
-    let a = c.args in
-    let there = c.past_plain in
-    let e = ap length (quote.byte_left a.quoted a.text.now there.result c.next_byte.ensures c.in-Some.is) in
-    omega (arith, there.ensures.fewer a.quoted)
 
 pub loop-c-preserved : goal.loop-c-preserved
 loop-c-preserved c =

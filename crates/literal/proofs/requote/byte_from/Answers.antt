@@ -1,16 +1,10 @@
 -- Each answer is the law of what stands at the offset.
-use native.Mathlib.Omega.{arith}
 use mathlib.Core.Path.{sym, ◌∙◌}
 use Rattle.literal.proofs.QuoteLaws as quote
 use Rattle.literal.proofs.requote.byte_from.Goals as goal
 
 pub returns-then-inner-i : goal.returns-then-inner-i
 returns-then-inner-i c = quote.from_none c.args.inner.now c.args.i c.if-inner-i.true
-
-pub overflow_add-result : goal.overflow_add-result
-overflow_add-result c =
-    let a = c.args in
-    let h = quote.single_room a.inner.now a.i (sym c.single_at.ensures ∙ c.if-single_at.true) in omega arith
 
 pub returns-then-single_at : goal.returns-then-single_at
 returns-then-single_at c =

@@ -1,6 +1,6 @@
 -- The counts so far are those of the bytes so far. Assumes nothing.
 use native.Mathlib.Omega.{arith}
-use mathlib.Core.Path.{refl, ap, ◌∙◌}
+use mathlib.Core.Path.{refl, ap}
 use mathlib.Core.Bool.{not}
 use Rattle.support.specs.Code.Blocks.{is_feed, is_first}
 use Rattle.support.proofs.Counts as counts
@@ -19,8 +19,3 @@ loop-b-preserved c =
       rw c.from-firsts.ensures (counts.counted_test is_first s l.b-index l.invariant.3 (omega arith) (ap not c.is_tail.ensures)),
     )
 
-pub returns : goal.returns
-returns c =
-    let l = c.loop-b in
-    let s = c.args.block.now in
-    record { feeds = c.from.ensures ∙ counts.counted_all is_feed s l.b-index l.invariant.2 (omega arith); firsts = c.from-2.ensures ∙ counts.counted_all is_first s l.b-index l.invariant.3 (omega arith) }

@@ -8,9 +8,6 @@ use Rattle.support.proofs.Pieces as pieces
 use Rattle.support.proofs.Utf8Laws as utf8
 use Rattle.support.proofs.utf8.valid_up_to.Goals as goal
 
-pub loop-i-init : goal.loop-i-init
-loop-i-init c = pieces.reached_start char_length c.args.s.now
-
 pub overflow_add-i : goal.overflow_add-i
 overflow_add-i c =
     let rest = drop c.loop-i.i c.args.s.now in

@@ -4,9 +4,6 @@ use Rattle.std.proofs.lemmas.Result.{err_from_is_err_and}
 use Rattle.card.proofs.ReplayLaws as laws
 use Rattle.card.proofs.stored.Replay.run.Goals as goal
 
-pub loop-text-init : goal.loop-text-init
-loop-text-init g c = record { same = refl; goes = laws.starts _ _ (search rules) }
-
 pub loop-text-preserved : goal.loop-text-preserved
 loop-text-preserved g c =
     let i = c.loop-text.invariant in

@@ -1,25 +1,13 @@
 -- The writers of parameters, keys and calls meet their contracts: what is written falls in size from call to call, and the loops write what is left. Assumes nothing.
 use native.Mathlib.Omega.{arith}
 use Rattle.std.proofs.Common.{rules}
-use mathlib.Core.Path.{ap}
 use Rattle.listing.specs.Listing.{param_form}
 use Rattle.expression.specs.Answers.{param_means}
 use Rattle.expression.proofs.Cases as cases
-use Rattle.listing.proofs.Size.{param_size}
 use Rattle.listing.proofs.ParamWrites as params
 use Rattle.listing.proofs.HeldWrites as held_writes
 use Rattle.listing.proofs.Writers as writers
 use Rattle.listing.proofs.writer.Writer.+writers.Goals as goal
-
-pub write_call-write_param-requires : goal.write_call-write_param-requires
-write_call-write_param-requires t c =
-    let a = c.args in
-    let e = params.call_size_lem a.text.now a.words.now a.name a.parts c.requires in (omega (arith, c.decreases), tt)
-
-pub write_call-write_params-requires : goal.write_call-write_params-requires
-write_call-write_params-requires t c =
-    let a = c.args in
-    let e = params.call_size_lem a.text.now a.words.now a.name a.parts c.requires in (omega (arith, c.decreases), c.requires)
 
 pub write_call-write_keys-requires : goal.write_call-write_keys-requires
 write_call-write_keys-requires t c =
@@ -30,22 +18,8 @@ pub write_call-returns : goal.write_call-returns
 write_call-returns t c =
     rw (params.call_bytes_lem _ _ _) (writers.wrote_then c.write_param.ensures (writers.wrote_then c.write_params.ensures c.write_keys.ensures))
 
-pub write_hash-write_param-requires : goal.write_hash-write_param-requires
-write_hash-write_param-requires t c = (omega (arith, c.decreases), tt)
-
 pub write_hash-returns : goal.write_hash-returns
 write_hash-returns t c = rw (params.hash_bytes _ _) (writers.wrote_then c.write_key.ensures (writers.wrote_then c.write_param.ensures c.put_bytes.ensures))
-
-pub write_held-loop-e-init : goal.write_held-loop-e-init
-write_held-loop-e-init t c =
-    let a = c.args in
-    held_writes.held_begins a.text.now a.words.now a.depth a.held.now _
-
-pub write_held-returns-in_default : goal.write_held-returns-in_default
-write_held-returns-in_default t c =
-    let a = c.args in
-    let l = c.loop-e in
-    absurd (held_writes.entry_read a.text.now a.words.now a.depth a.held.now l.e-index c.requires c.loop-e-test.true c.in_default.is c.parse_hash.ensures)
 
 pub write_held-write_hash-requires : goal.write_held-write_hash-requires
 write_held-write_hash-requires t c =
@@ -61,33 +35,15 @@ write_held-loop-e-preserved t c =
 pub write_held-returns : goal.write_held-returns
 write_held-returns t c = held_writes.held_done c.loop-e.invariant c.loop-e-test.false
 
-pub write_keys-slice_bounds-write_held-end : goal.write_keys-slice_bounds-write_held-end
-write_keys-slice_bounds-write_held-end t c =
-    let k = c.in-Some.ensures.means in omega (arith, c.hold_keys.auto.held)
-
 pub write_keys-write_held-requires : goal.write_keys-write_held-requires
 write_keys-write_held-requires t c =
     let k = c.in-Some.ensures.means in
     (omega (arith, c.decreases, held_writes.held_size k), held_writes.all_read k)
 
-pub write_keys-returns : goal.write_keys-returns
-write_keys-returns t c =
-    held_writes.held_written c.in-Some.ensures.means c.write_held.ensures
-
 pub write_least_keys-loop-h-init : goal.write_least_keys-loop-h-init
 write_least_keys-loop-h-init t c =
     let a = c.args in
     params.keys_begin a.text.now a.words.now a.parts _ c.requires
-
-pub write_least_keys-write_hash-requires : goal.write_least_keys-write_hash-requires
-write_least_keys-write_hash-requires t c =
-    let i = (rw c.in-Ok-Some.field-0-is at c.in-Ok-Some.ensures) in
-    let l = params.keys_less c.loop-h.invariant i in
-    (omega (arith, c.decreases), tt)
-
-pub write_least_keys-loop-h-smaller : goal.write_least_keys-loop-h-smaller
-write_least_keys-loop-h-smaller t c =
-    params.keys_fall c.loop-h.invariant (rw c.in-Ok-Some.field-0-is at c.in-Ok-Some.ensures)
 
 pub write_least_keys-loop-h-preserved : goal.write_least_keys-loop-h-preserved
 write_least_keys-loop-h-preserved t c =
@@ -96,24 +52,10 @@ write_least_keys-loop-h-preserved t c =
 pub write_least_keys-returns-in_default : goal.write_least_keys-returns-in_default
 write_least_keys-returns-in_default t c = params.keys_done c.loop-h.invariant (search rules)
 
-pub write_many_keys-slice_bounds-write_held-end : goal.write_many_keys-slice_bounds-write_held-end
-write_many_keys-slice_bounds-write_held-end t c =
-    let k = c.in-Some.ensures.means in omega (arith, c.hold_keys.auto.held)
-
 pub write_many_keys-write_held-requires : goal.write_many_keys-write_held-requires
 write_many_keys-write_held-requires t c =
     let k = c.in-Some.ensures.means in
     (omega (arith, c.decreases, held_writes.held_size k), held_writes.all_read k)
-
-pub write_many_keys-returns : goal.write_many_keys-returns
-write_many_keys-returns t c =
-    held_writes.held_written c.in-Some.ensures.means c.write_held.ensures
-
-pub write_param-write_subexpression-requires : goal.write_param-write_subexpression-requires
-write_param-write_subexpression-requires t c =
-    let a = c.args in
-    let e = ap (λ z. param_size (param_means a.text.now a.words.now z)) c.in-Subexpression.is in
-    (omega (arith, c.decreases), tt)
 
 pub write_param-returns-in-Name : goal.write_param-returns-in-Name
 unfolding param_means
@@ -133,26 +75,6 @@ write_param-returns-in-Literal t c =
     let a = c.args in
     params.param_is a.text.now a.words.now c.in-Literal.is c.write_literal.ensures
 
-pub write_param-returns-in-Subexpression : goal.write_param-returns-in-Subexpression
-write_param-returns-in-Subexpression t c =
-    let a = c.args in
-    params.param_is a.text.now a.words.now c.in-Subexpression.is c.write_subexpression.ensures
-
-pub write_params-loop-v-init : goal.write_params-loop-v-init
-write_params-loop-v-init t c =
-    let a = c.args in
-    params.params_begin a.text.now a.words.now a.parts _ c.requires
-
-pub write_params-write_param-requires : goal.write_params-write_param-requires
-write_params-write_param-requires t c =
-    let l = c.loop-v in
-    let i = (rw c.in-Ok-Some.field-0-is at c.in-Ok-Some.ensures) in let l = params.params_less l.invariant i in
-    (omega (arith, c.decreases), tt)
-
-pub write_params-loop-v-smaller : goal.write_params-loop-v-smaller
-write_params-loop-v-smaller t c =
-    let i = (rw c.in-Ok-Some.field-0-is at c.in-Ok-Some.ensures).means in omega arith
-
 pub write_params-loop-v-preserved : goal.write_params-loop-v-preserved
 write_params-loop-v-preserved t c =
     let l = c.loop-v in
@@ -166,11 +88,6 @@ pub write_subexpression-returns-in_default : goal.write_subexpression-returns-in
 write_subexpression-returns-in_default t c =
     let a = c.args in
     params.sub_empty a.text.now a.words.now a.s (cases.not_entered c.in_default.is c.enter.ensures) c.put_bytes.ensures
-
-pub write_subexpression-write_call-requires : goal.write_subexpression-write_call-requires
-write_subexpression-write_call-requires t c =
-    let i = (cases.entered c.in-Ok.is c.enter.ensures) in let e = params.sub_size i in
-    (omega (arith, c.decreases), i.linked.parts)
 
 pub write_subexpression-returns : goal.write_subexpression-returns
 write_subexpression-returns t c =

@@ -1,5 +1,4 @@
 -- The bytes passed are written as quoted text has them; a turn writes a block. Assumes nothing.
-use native.Mathlib.Omega.{arith}
 use mathlib.Core.Path.{ap, ◌∙◌}
 use Rattle.std.specs.Slice.Iter.{chunks_rest, chunks_size}
 use Rattle.listing.specs.Quoted.{escaped}
@@ -14,14 +13,9 @@ loop-block-init c =
     let n = c.chunks-block-items.ensures in
     (ap chunks_size e ∙ n.size, writes.passed_none _ (ap chunks_rest e ∙ n.rest) (writers.wrote_none _))
 
-pub write_block-requires : goal.write_block-requires
-write_block-requires c = let b = c.in-Some.ensures.steps in omega (arith, b.1.1, c.loop-block.invariant.0)
-
 pub loop-block-preserved : goal.loop-block-preserved
 loop-block-preserved c =
     let b = c.in-Some.ensures.steps in
     let i = c.loop-block.invariant in
     (b.0 ∙ i.0, writers.escaped_block i.1 c.in-Some.block.now _ b.1.0 c.write_block.ensures)
 
-pub returns : goal.returns
-returns c = writes.passed_all c.in-None.ensures.steps.1.0 c.loop-block.invariant.1

@@ -8,10 +8,6 @@ returns-in_default c =
     let args = c.args in
     children.decorator_empty args.text.now args.words.now args.link (cases.expression_failed c.in_default.is c.parse_expression.ensures) c.put_bytes.ensures
 
-pub write_call-requires : goal.write_call-requires
-write_call-requires c =
-    (cases.expression_done c.in-Ok.is c.parse_expression.ensures).linked.parts
-
 pub returns : goal.returns
 returns c =
     let args = c.args in

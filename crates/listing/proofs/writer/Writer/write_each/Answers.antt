@@ -14,7 +14,3 @@ loop-b-preserved c =
     let l = c.loop-b in
     (l.invariant.0, writes.escaped_more c.args.text.now l.b-index (omega arith) (omega arith) l.invariant.1 c.store_escaped-p.ensures)
 
-pub returns : goal.returns
-returns c =
-    let l = c.loop-b in
-    record { same = l.invariant.0; bytes = writes.escaped_all c.args.text.now l.b-index (omega arith) l.invariant.1 }

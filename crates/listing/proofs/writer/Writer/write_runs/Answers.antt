@@ -19,11 +19,6 @@ returns-in_default c =
     let q = rw (sym s.ensures.front) at c.plain_front.ensures.1 in
     writes.passed_all (omega arith) (writers.escaped_run c.loop-marked.invariant.1 s.result.0.now s.result.1.now s.ensures.by_index.0 q c.put_bytes.ensures)
 
-pub loop-marked-smaller : goal.loop-marked-smaller
-loop-marked-smaller c =
-    let marked = c.split_at.result.1.now in
-    omega (arith, c.split_at.ensures.back_len, length-take (length marked - 1) (drop 1 marked))
-
 pub loop-marked-preserved : goal.loop-marked-preserved
 loop-marked-preserved c =
     let s = c.split_at in

@@ -1,19 +1,10 @@
 -- What writes the rest writes the whole. Assumes nothing.
-use native.Mathlib.Omega.{arith}
 use Rattle.json_path.proofs.Cases as cases
 use Rattle.listing.proofs.PathWrites as paths
-use Rattle.listing.proofs.Writers as writers
 use Rattle.listing.proofs.writer.Writer.write_segments.Goals as goal
-
-pub loop-segment-init : goal.loop-segment-init
-loop-segment-init c = writers.onward_start _ _
 
 pub returns : goal.returns
 returns c = paths.segments_end c.args.text.now c.args.words.now c.loop-segment.rest c.loop-segment.invariant (cases.segment_none c.in_default.is c.next_segment.ensures)
-
-pub loop-segment-smaller : goal.loop-segment-smaller
-loop-segment-smaller c =
-    let w = (cases.segment_found c.in-Some.is c.next_segment.ensures) in omega arith
 
 pub loop-segment-preserved : goal.loop-segment-preserved
 loop-segment-preserved c =
