@@ -2,12 +2,8 @@
 use Prim.Native.Nat.{ℕ}
 use native.Mathlib.Omega.{arith}
 use lib.ListN.{length-replicate}
-use Rattle.template.proofs.Exits.{handed_on}
 use Rattle.template.proofs.Buffers as buffers
 use Rattle.template.proofs.compile.compile_in.Goals as goal
-
-pub returns-in_err-n : goal.returns-in_err-n
-returns-in_err-n g c = rw (handed_on c.from_residual.ensures.1) (buffers.turned_away c.args.text.now c.args.words.now c.args.options c.args.out.now c.in_err-n.ensures)
 
 pub returns-then-out-n : goal.returns-then-out-n
 returns-then-out-n g c = buffers.too_long c.args.text.now c.args.words.now c.args.options c.in_ok-n.ensures c.if-out-n.true

@@ -3,11 +3,6 @@ use Rattle.template.proofs.ElementWrites as elements
 use Rattle.template.proofs.ShortOpening as short
 use Rattle.template.proofs.list.write_element.Goals as goal
 
-pub write_text-requires : goal.write_text-requires
-write_text-requires c =
-    let args = c.args in
-    elements.raw_sound args.input.now.text.now args.input.now.words.now args.e c.in-RawString.is c.requires
-
 pub returns-in-Empty : goal.returns-in-Empty
 returns-in-Empty c =
     let args = c.args in

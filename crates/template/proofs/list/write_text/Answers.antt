@@ -3,9 +3,6 @@ use Rattle.listing.proofs.Writers.{wrote_then}
 use Rattle.template.proofs.ElementWrites as elements
 use Rattle.template.proofs.list.write_text.Goals as goal
 
-pub write_raw-requires : goal.write_raw-requires
-write_raw-requires c = c.requires
-
 pub returns : goal.returns
 returns c =
     rw (elements.text_bytes _ _)

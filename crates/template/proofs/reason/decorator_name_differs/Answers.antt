@@ -11,14 +11,6 @@ returns-then-not-same c =
     laws.decorator_ends a.text.now a.tag a.opened a.end same_name.ensures is_empty_name.ensures (rw c.if-not-same.true) (omega arith)
     (omega arith)
 
-pub returns-else-not-same : goal.returns-else-not-same
-returns-else-not-same c =
-    let a = c.args in
-    let same_name = c.same_name-same in
-    let is_empty_name = c.is_empty_name-empty in
-    laws.decorator_ends a.text.now a.tag a.opened a.end same_name.ensures is_empty_name.ensures (rw c.if-not-same.false) (omega arith)
-    (omega arith)
-
 pub returns-in_default : goal.returns-in_default
 returns-in_default c =
     let a = c.args in

@@ -1,12 +1,9 @@
 -- No span before the loop's number is bad. Assumes nothing.
 use native.Mathlib.Omega.{arith}
-use mathlib.Core.Path.{◌≡◌, refl, subst}
+use mathlib.Core.Path.{◌≡◌, subst}
 use Rattle.template.specs.Checked.{FirstBadIs}
 use Rattle.template.proofs.CheckLaws as laws
 use Rattle.template.proofs.reason.first_bad.Goals as goal
-
-pub loop-k-init : goal.loop-k-init
-loop-k-init c = record { same = refl; inside = omega arith }
 
 pub returns-then-bad_span : goal.returns-then-bad_span
 returns-then-bad_span c =

@@ -2,9 +2,6 @@
 use Rattle.template.proofs.TagLaws as laws
 use Rattle.template.proofs.tag.read_tag.Goals as goal
 
-pub returns-then-s-eq10 : goal.returns-then-s-eq10
-returns-then-s-eq10 c = c.read_chain.ensures c.if-s-eq10.true
-
 pub returns : goal.returns
 returns c =
     let x = c.args.visit.now in

@@ -24,9 +24,6 @@ returns-in-11-to-14 c =
     let a = args in
     laws.act_add a.tag a.e (laws.past_10 (omega arith) (λ h. omega arith) (λ h. omega arith)) (laws.below (omega arith))
 
-pub returns-in_default : goal.returns-in_default
-returns-in_default c = absurd (omega (arith, c.requires.first_tag))
-
 pub returns-in_default-2 : goal.returns-in_default-2
 returns-in_default-2 c =
     let a = c.args in

@@ -8,11 +8,6 @@ returns-then-standalone c =
     let a = c.args in
     laws.cut_partial a.tag a.standalone a.prevent_indent c.in-14.is (rw c.if-standalone.true)
 
-pub returns-else-standalone : goal.returns-else-standalone
-returns-else-standalone c =
-    let a = c.args in
-    laws.cut_partial a.tag a.standalone a.prevent_indent c.in-14.is (rw c.if-standalone.false)
-
 pub returns-in-11-to-12 : goal.returns-in-11-to-12
 returns-in-11-to-12 c =
     let a = c.args in

@@ -8,11 +8,6 @@ returns-then-not-prevent_indent c =
     let a = c.args in
     laws.indent_14 a.tag a.prevent_indent a.left c.in-14.is (rw c.if-not-prevent_indent.true)
 
-pub returns-else-not-prevent_indent : goal.returns-else-not-prevent_indent
-returns-else-not-prevent_indent c =
-    let a = c.args in
-    laws.indent_14 a.tag a.prevent_indent a.left c.in-14.is (rw c.if-not-prevent_indent.false)
-
 pub returns-in_default : goal.returns-in_default
 returns-in_default c =
     let a = c.args in

@@ -1,13 +1,8 @@
 -- The step of a comment is the one that VisitLaws has. Assumes nothing.
-use native.Mathlib.Omega.{arith}
 use mathlib.Core.Path.{refl}
 use lib.Dec.{eqb}
 use Rattle.template.proofs.VisitLaws as laws
 use Rattle.template.proofs.input.Visit.comment.Goals as goal
-
-pub overflow_add-result : goal.overflow_add-result
-overflow_add-result c =
-    omega (arith, c.args.self.now.walked.counted, c.args.self.now.input.now.good.few)
 
 pub returns : goal.returns
 returns c =

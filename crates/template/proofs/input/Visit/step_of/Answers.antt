@@ -2,10 +2,6 @@
 use Rattle.template.proofs.TagSteps as laws
 use Rattle.template.proofs.input.Visit.step_of.Goals as goal
 
-pub act_of-requires : goal.act_of-requires
-act_of-requires c =
-    record { first_tag = c.requires.first_tag; last_tag = c.requires.last_tag }
-
 pub returns : goal.returns
 returns c =
     let x = c.args.self.now in

@@ -1,11 +1,6 @@
 -- The step of a template span is the one that VisitLaws has. Assumes nothing.
-use native.Mathlib.Omega.{arith}
 use Rattle.template.proofs.VisitLaws as laws
 use Rattle.template.proofs.input.Visit.template.Goals as goal
-
-pub overflow_add-result : goal.overflow_add-result
-overflow_add-result c =
-    omega (arith, c.args.self.now.walked.counted, c.args.self.now.input.now.good.few)
 
 pub returns : goal.returns
 returns c =
