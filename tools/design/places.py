@@ -54,7 +54,9 @@ def fn_name(block):
 def head_and_body(block):
     for i, line in enumerate(block):
         if line.strip() == "{":
-            return block[:i], block[i + 1 : -1]
+            return [l.strip() for l in block[:i]], block[i + 1 : -1]
+        if line.rstrip().endswith("{") and not re.match(r"\s*(requires|ensures) ", line):
+            return [l.strip() for l in block[: i + 1]], block[i + 1 : -1]
     return block[:1], block[1:-1]
 
 

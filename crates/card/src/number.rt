@@ -27,6 +27,7 @@ pub fn read_digits(s: &[u8], at: usize) -> Digits
 {
     let mut value = 0;
     let mut end = at;
+    // Stays: the value and the end are found in one pass.
     for c in part(s, at, s.len()) {
         if !c.is_ascii_digit() {
             break;

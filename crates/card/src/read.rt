@@ -86,6 +86,7 @@ fn read_lines(input: &[u8], from: usize, words: &mut [u32]) -> Lines
 {
     let mut n = 0;
     let mut at = from;
+    // Stays: `n` counts words that may have no room, three at a time.
     while let Some(s) = read_line(input, at) {
         put_word(words, n, s.tag);
         put_word(words, n + 1, s.start);

@@ -20,7 +20,7 @@ fn show_answer(rt: &impl Print, text: &[u8], words: &[u32], options: u32) -> io:
     }
 }
 
-// Stays: the lines of `replay_cards`. `Print` says nothing of what it writes, so that a public function in `card` could promise nothing.
+// Stays: the lines of `replay_cards`. A type in `card` that holds what is done with a card, as `Replay` does, would be longer than they are.
 fn show_card(rt: &impl Print, input: &[u8]) -> io::Result<()> {
     let mut words = [0u32; Card::WORDS];
     let Some(card) = read_card(input, &mut words) else {

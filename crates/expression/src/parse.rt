@@ -5,7 +5,8 @@
 // they are where a tag is walked, and not again where what was read is read again.
 // Stays: `judged` is a flag, since the specification's readers take a truth value: an enum would stand in
 // ten clauses behind an `is_judged`.
-// Stays: `text` and `words` are two parameters, since no fact ties them: any words go with any text.
+// Stays: `text` and `words` are two parameters, since json_path takes them so: path.rt there says what one struct costs.
+// Stays: `depth` and `judged` are two, since they say nothing of each other.
 ghost use Rattle.std.specs.Prelude.{◌+◌, ◌<◌, length};
 ghost use Rattle.json_path.specs.Span.{spans_from};
 ghost use Rattle.expression.specs.Readers.{read_name, read_subexpression, read_param, read_value, read_expression};

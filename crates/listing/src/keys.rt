@@ -46,7 +46,8 @@ fn insert_at(held: &mut [usize], place: usize, count: usize, e: usize)
 }
 
 // One more entry among `count`: so many cells hold them then, or there are not enough.
-// Stays: a struct of the cells and their count could not say that they are in order, which is by a text and words that it lacks.
+// Stays: cells and count, here and in the next two. That they are in order is by the text and the words, so that a struct would
+// hold all four, for three functions.
 fn hold_key(text: &[u8], words: &[u32], e: usize, held: &mut [usize], count: usize) -> Option<usize>
     requires { (count ≤ length held.old) × InOrder (entry_key text.now words.now) (take count held.old) }
     ensures { CellsHold (put_entry (entry_key text.now words.now) e (take count held.old)) held.new result }

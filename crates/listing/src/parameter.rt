@@ -82,7 +82,8 @@ impl<'a> Writer<'a> {
 
     // Name, parameters, keys in byte order. A link that a reader answered can be read again: this and the
     // writers of all parameters and keys ask for that, so that no fault occurs in them.
-    // Stays: `Readable` is a fact about a text and words, which a `Parts` lacks, so that no type of its own can say it.
+    // Stays: `Readable`, here and below, is asked of text, words and parts. A struct of the three would be taken apart at each
+    // call of a reader, and be made again for the parts that are left.
     #[cycle(writers)]
     pub(crate) fn write_call(&mut self, text: &[u8], words: &[u32], name: Parameter, parts: Parts)
         requires { Readable (parts_read false text.now words.now parts) }
@@ -106,7 +107,7 @@ impl<'a> Writer<'a> {
     }
 
     // Most calls have few keys.
-    // Stays: an array of cells, with no count beside it, since `hold_keys` answers how many it fills.
+    // Stays: an array, since there is no heap, with no count beside it: `hold_keys` answers how many cells it fills.
     #[cycle(writers)]
     fn write_keys(&mut self, text: &[u8], words: &[u32], parts: Parts)
         requires { Readable (parts_read false text.now words.now parts) }
@@ -120,7 +121,8 @@ impl<'a> Writer<'a> {
     }
 
     // A key takes three spans: a list of so many spans as are allowed has no more keys than these cells.
-    // Stays: one function for any number of cells has no statement yet, as functions of a cycle may not differ in a const parameter.
+    // Stays: functions of a cycle may not differ in a const parameter; and the larger array has a frame of its own, so that calls
+    // inside one another do not each hold it.
     #[cycle(writers)]
     fn write_many_keys(&mut self, text: &[u8], words: &[u32], parts: Parts)
         requires { Readable (parts_read false text.now words.now parts) }

@@ -44,7 +44,7 @@ fn store_escaped(out: &mut [u8], at: usize, b: u8) -> usize
     }
 }
 
-// Stays: it says which bytes `store_escaped` gives an escape; what that is would be one more test for each byte of a block.
+// Stays: beside the match of `store_escaped`. An `Option` of the letter would do for both, but here a block is only counted.
 fn has_escape(b: u8) -> bool
     ensures { MatchBool result (length (escape b) ≡ 2) (escape b ≡ b ∷ []) }
 {
@@ -83,7 +83,7 @@ fn escapes(text: &[u8]) -> usize
 }
 
 // The place `i` of a byte that has an escape, 64 for any other.
-// Stays: one instruction takes the least of many bytes, which an `Option` is not.
+// Stays: 64 for none, since the least of many bytes is found by one instruction, and that of many Options is not.
 fn stop_at(b: u8, i: u8) -> u8
     ensures { i < result → escape b ≡ b ∷ [] }
 {
@@ -165,7 +165,7 @@ impl<'a> Writer<'a> {
     }
 
     // A block as it stands between quotes, in the way that its number of escapes makes quickest.
-    // Stays: a text's last block is shorter than 64 bytes, so no type says this bound.
+    // Stays: the bound of a block. A struct of one slice that is at most so long would be taken apart in each of the three that ask it.
     fn write_block(&mut self, block: &[u8])
         requires { length block.now ≤ 64 }
         ensures { Wrote (escaped block.now) self.old self.new }
@@ -242,7 +242,7 @@ impl<'a> Writer<'a> {
     }
 
     // A number in decimal.
-    // Stays: a loop would find the last digit first, and the first is written first.
+    // Stays: std's `Display` writes to no slice. It calls itself, since a loop would find the last digit first.
     pub fn write_decimal(&mut self, n: usize)
         ensures { Wrote (decimal n) self.old self.new }
     {

@@ -20,6 +20,7 @@ fn after_letter(c: char) -> Text {
     text
 }
 
+// Stays: here and above one function a side, as `trim_start` and `trim_end` are two.
 fn is_trimmed_at_front(c: char) -> bool {
     let text = before_letter(c);
     let s = text.as_slice();

@@ -34,7 +34,7 @@ impl Alphabet {
     }
 
     // How many strings of this many symbols there are.
-    pub fn strings(self, symbols: u32) -> usize {
+    pub(crate) fn strings(self, symbols: u32) -> usize {
         self.symbols().len().saturating_pow(symbols)
     }
 }
@@ -49,7 +49,7 @@ pub struct Text {
 }
 
 impl Text {
-    pub fn new() -> Text {
+    pub(crate) fn new() -> Text {
         Text {
             bytes: [0; 64],
             len: 0,
@@ -58,7 +58,7 @@ impl Text {
 
     // The string of this many symbols with this number: the symbols are its digits, the lowest
     // first.
-    pub fn spell(alphabet: Alphabet, symbols: u32, number: usize) -> Text {
+    pub(crate) fn spell(alphabet: Alphabet, symbols: u32, number: usize) -> Text {
         let parts = alphabet.symbols();
         let mut text = Text::new();
         let mut rest = number;
@@ -70,14 +70,14 @@ impl Text {
     }
 
     // Puts a byte at the end. A full text takes nothing.
-    pub fn push(&mut self, b: u8) {
+    pub(crate) fn push(&mut self, b: u8) {
         if self.len < 64 {
             self.bytes[self.len] = b;
             self.len += 1;
         }
     }
 
-    pub fn push_char(&mut self, c: char) {
+    pub(crate) fn push_char(&mut self, c: char) {
         let mut bytes = [0; 4];
         self.push_bytes(c.encode_utf8(&mut bytes).as_bytes());
     }
@@ -88,7 +88,7 @@ impl Text {
         }
     }
 
-    pub fn as_slice(&self) -> &[u8] {
+    pub(crate) fn as_slice(&self) -> &[u8] {
         &self.bytes[..self.len]
     }
 }

@@ -8,7 +8,7 @@ use mathlib.Core.Option.{none, some}
 use lib.ListN.{length}
 use lib.Dec.{ltb}
 use borrow.Author.Tests.{lt-ltb, le-ltb, eq-eqb, ltb-false, ne_eqb}
-use Rattle.std.specs.Prelude.{Result, Ok, Err}
+use Rattle.std.specs.Prelude.{Some, None, Result, Ok, Err}
 use Rattle.support.specs.Bytes.{Bytes, if}
 use Rattle.support.specs.Utf8.{char_length, valid_length, is_char_boundary}
 use Rattle.support.proofs.Pieces.{leading_le}
@@ -58,16 +58,16 @@ pub record Looking (text : Bytes) (words : List ℕ) (k : ℕ) : Type 0 where
   pub inside : k ≤ span_count words
 
 module _ {text : Bytes} {words : List ℕ} {k : ℕ} (g : Looking text words k) where
-  pub looking_end : span_count words ≤ k → FirstBadIs text words k
+  pub looking_end : span_count words ≤ k → FirstBadIs text words None
   unfolding first_bad
-  looking_end h = record { found = λ l. absurd (omega arith); absent = λ l. g.same ∙ ap (first_bad text) (all_end words k h) }
+  looking_end h = record { means = g.same ∙ ap (first_bad text) (all_end words k h) }
 
   module _ {s : Span} {b : Bool} (e : s ≡ span_at words k) (h : k < span_count words) (q : b ≡ bad_span text s) where
-    pub looking_found : b ≡ true → FirstBadIs text words k
+    pub looking_found : b ≡ true → FirstBadIs text words (Some k)
     unfolding first_bad
     looking_found t =
         let f : bad_span text (span_at words k) ≡ true = ap (bad_span text) (sym e) ∙ sym q ∙ t in
-        record { found = λ l. g.same ∙ ap (first_bad text) (all_next words k h) ∙ rw (f, first_bad); absent = λ l. absurd (omega arith) }
+        record { means = g.same ∙ ap (first_bad text) (all_next words k h) ∙ rw (f, first_bad) }
 
     pub looking_on : b ≡ false → Looking text words (k + 1)
     unfolding first_bad

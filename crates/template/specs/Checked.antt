@@ -1,8 +1,8 @@
 -- What the answers about the whole input mean: 1 to 5.
-use Rattle.std.specs.Prelude.{ℕ, ◌≤◌, ◌<◌, ◌≡◌, List, Result, Ok, Err}
+use Rattle.std.specs.Prelude.{ℕ, ◌≡◌, List, Some, None, Result, Ok, Err}
+use Rattle.std.specs.declared.option.Option as rattle
 use Rattle.std.proofs.Math.Option.{none, some}
 use Rattle.support.specs.Bytes.{Bytes, if}
-use Rattle.json_path.specs.Span.{span_count}
 use Rattle.template.specs.Result.{accepted, refused}
 use Rattle.template.specs.Checks.{options_over, checks, bad_span_of}
 use Rattle.template.specs.Compile.{prevent_indent, is_partial}
@@ -16,10 +16,13 @@ use Rattle.template.specs.declared.visit.Options.{Options}
 abbrev pub options_read : ℕ → Result Options Refusal
 options_read n = if (options_over n) (Err (record { reason = R.Options; place = 0 })) (Ok (record { prevent_indent = prevent_indent n; is_partial = is_partial n }))
 
--- r is the number of the first bad span, or the count
-pub record FirstBadIs (text : Bytes) (words : List ℕ) (r : ℕ) : Type 0 where
-  pub found : r < span_count words → bad_span_of text words ≡ some r
-  pub absent : span_count words ≤ r → bad_span_of text words ≡ none
+-- the number of the first bad span, or there is none
+abbrev pub FirstBadMeans : Bytes → List ℕ → rattle.Option ℕ → Type 0
+FirstBadMeans text words (Some k) = bad_span_of text words ≡ some k
+FirstBadMeans text words None = bad_span_of text words ≡ none
+
+pub record FirstBadIs (text : Bytes) (words : List ℕ) (r : rattle.Option ℕ) : Type 0 where
+  pub means : FirstBadMeans text words r
 
 -- what passes 1 to 5, with the options o
 pub record Passes (text : Bytes) (words : List ℕ) (options : ℕ) (o : Options) : Type 0 where

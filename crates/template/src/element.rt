@@ -35,6 +35,7 @@ pub struct RawString {
 }
 
 // A comment's own text, with its marks; `compact` says which marks they are.
+// Stays: a flag, since the text is kept either way.
 #[derive(Clone, Copy)]
 pub struct Comment {
     pub start: usize,
@@ -59,6 +60,7 @@ pub struct DecoratorTemplate {
     pub indent: Option<usize>,
 }
 
+// Stays: `Empty`, which document 01's arrays are filled with.
 #[derive(Clone, Copy)]
 pub enum TemplateElement {
     Empty,
@@ -76,7 +78,8 @@ pub enum TemplateElement {
 // An element with its name, which only a tag has, its place (line 0: none) and its links: to the element
 // after it in its body, to the first of its own body, and to the first of its else, if it has one
 // (`inverted`). While its block is open, `inverse` of an else-if node is the node before it.
-// Stays: `inverted` beside `inverse`, since an else may be empty, and `inverse` is a link before there is an else.
+// Stays: links are numbers, 0 for none, since there is no heap and the store is an array whose cell 0 is empty. `inverted` is
+// beside `inverse`, since an else may be empty, and `inverse` is a link before there is an else.
 #[derive(Clone, Copy)]
 pub struct Element {
     pub element: TemplateElement,

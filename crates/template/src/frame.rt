@@ -47,13 +47,9 @@ impl Frame {
         ensures { result ≡ begun opened block }
     {
         Frame {
-            opened: opened,
-            block: block,
-            head: 0,
-            first: 0,
-            last: 0,
-            chain: false,
-            inverted: false,
+            opened,
+            block,
+            ..Frame::EMPTY
         }
     }
 }

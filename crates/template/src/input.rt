@@ -8,7 +8,7 @@ use json_path::span::Span;
 
 // The input of a call that 1 to 5 have found good: a text, its span words and the options; and the tables of
 // the empty lines that start and end at each offset of the text.
-// Stays: two tables, since they are filled from opposite ends of the text.
+// Stays: two tables, since they are filled from opposite ends: in one table of pairs each pass would store the other half again.
 #[derive(Clone, Copy)]
 pub struct Input<'a> {
     pub text: &'a [u8],

@@ -33,6 +33,7 @@ fn find_line_starts(text: &[u8], starts: &mut [bool])
 }
 
 // One ends at the start of the text; after it, by the byte before.
+// Stays: beside `find_line_starts`, which goes the other way and leaves out the last cell.
 fn find_line_ends(text: &[u8], ends: &mut [bool])
     requires { length text.now < length ends.old }
     ensures { EndsAre text.now ends.new }

@@ -46,17 +46,16 @@ fn bad_span(text: &[u8], s: Span) -> bool
     !is_char_boundary(text, s.end)
 }
 
-// The number of the first bad span, or the count.
-fn first_bad(text: &[u8], words: &[u32]) -> usize
+// The number of the first bad span.
+fn first_bad(text: &[u8], words: &[u32]) -> Option<usize>
     ensures { FirstBadIs text.now words.now result }
 {
-    let n = span_count(words);
-    for k in 0..n {
+    for k in 0..span_count(words) {
         if bad_span(text, span_at(words, k)) {
-            return k;
+            return Some(k);
         }
     }
-    n
+    None
 }
 
 // 1 for `prevent_indent` plus 2 for `is_partial`.
@@ -104,8 +103,7 @@ pub(crate) fn checks(text: &[u8], words: &[u32], options: u32) -> Result<Options
             place: valid,
         });
     }
-    let bad = first_bad(text, words);
-    if bad < span_count(words) {
+    if let Some(bad) = first_bad(text, words) {
         return Err(Refusal {
             reason: Reason::BadSpan,
             place: bad,
@@ -156,7 +154,8 @@ fn takes_else(o: Opened, inverted: bool) -> bool
 }
 
 // An end tag needs the innermost block's kind.
-// Stays: here and below a tag is a number, since document 01 has one match over the tag number, with ranges.
+// Stays: here and below a tag is a number, as document 01's match over it has ranges: an enum would name 20 tags where these
+// name a few ranges.
 fn is_of_kind(tag: u32, o: Opened) -> bool
     ensures { OfKindIs tag o result }
 {
@@ -219,6 +218,7 @@ pub(crate) fn bad_escapes(input: &Input, start: usize, limit: usize, from: usize
 {
     let mut least = start;
     let mut k = from;
+    // Stays: escapes are listed one after the other, so that the next one is at the next number.
     while let Some(x) = escape_at(input.words, k)
         && x.end <= limit
     {
@@ -255,8 +255,7 @@ pub(crate) fn too_many_open(tag: u32, count: usize) -> bool
 }
 
 // Equal names, two without a name included.
-// Stays: three cases. With `==` over the two texts as Options the proof would go through std's comparison of each
-// byte, and be longer than these.
+// Stays: three cases. `==` over the two texts as Options was tried, and its proof did not close: std compares them byte by byte.
 fn same_name(text: &[u8], a: Option<Name>, b: Option<Name>) -> bool
     ensures { result ≡ same_name (as_name_means text.now a) (as_name_means text.now b) }
 {
@@ -271,10 +270,7 @@ fn same_name(text: &[u8], a: Option<Name>, b: Option<Name>) -> bool
 fn is_empty_name(text: &[u8], a: Option<Name>) -> bool
     ensures { result ≡ is_empty_name (as_name_means text.now a) }
 {
-    match a {
-        None => false,
-        Some(x) => x.text(text).is_empty(),
-    }
+    a.is_some_and(|x| x.text(text).is_empty())
 }
 
 // 10: the end of a helper or raw block has another name.
@@ -293,6 +289,7 @@ pub(crate) fn helper_name_differs(
 }
 
 // 11: the end of a decorator or partial block has another name, and not an empty one.
+// Stays: beside `helper_name_differs`, which lets no empty name pass.
 pub(crate) fn decorator_name_differs(
     text: &[u8],
     tag: u32,

@@ -39,7 +39,7 @@ pub struct Plan {
 }
 
 // What is open when a turn begins.
-// Stays: `OpenFits` as a ghost field, since the laws are for an `Open` with any numbers.
+// Stays: `OpenFits` is asked in five contracts and is no ghost field, since the laws are for an `Open` with any numbers.
 #[derive(Clone, Copy)]
 pub struct Open {
     pub top: Frame,
@@ -282,8 +282,8 @@ pub(crate) fn take_gap(gap: Option<Element>, len: usize) -> Gapped
 // Where the walk stands: the body on top, the marks, the place found last; how many bodies are around that
 // body, how many elements there are, and how many blocks with their else-ifs are open; whether a block closes;
 // the number of the next span.
-// Stays: `len` and `depth` are here and in no type with the store and the frames, since a turn stores at them
-// also what does not stay, and neither takes back what it stored.
+// Stays: `len` and `depth` are numbers beside the store and the frames, and no stack's: a turn writes the cells there also
+// where it keeps nothing in them.
 #[derive(Clone, Copy)]
 pub struct Standing {
     pub top: Frame,

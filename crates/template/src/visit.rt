@@ -197,7 +197,8 @@ fn decorator(x: TagExpression, s: Span, mark: bool, indent: bool) -> DecoratorTe
 }
 
 // The element that a tag makes; `mark`: the indent mark, `indent`: blanks are kept.
-// Stays: here and below a tag is a number, since document 01 has one match over the tag number, with ranges.
+// Stays: here and below a tag is a number, as document 01's match over it has ranges: an enum would name 20 tags where these
+// name a few ranges.
 fn element_of(s: Span, x: TagExpression, mark: bool, indent: bool) -> TemplateElement
     ensures { ElementIs s x mark indent result }
 {
@@ -217,6 +218,7 @@ fn element_of(s: Span, x: TagExpression, mark: bool, indent: bool) -> TemplateEl
 }
 
 // Whose body a block start opens.
+// Stays: the bounds of a tag, here and below, are asked of those to which `visit_kind`'s match leads.
 fn opened_of(tag: u32) -> Opened
     requires first_tag { 5 ≤ tag }
     requires last_tag { tag ≤ 8 }

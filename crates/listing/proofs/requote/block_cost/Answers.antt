@@ -10,4 +10,3 @@ loop-i-init c = omega arith
 
 pub loop-i-preserved : goal.loop-i-preserved
 loop-i-preserved c = (omega arith, omega (arith, counts.cost_more c.args.block.now c.loop-i.i))
-

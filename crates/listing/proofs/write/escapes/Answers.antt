@@ -8,4 +8,3 @@ loop-block-preserved c =
     let b = c.in-Some.ensures.steps in
     let i = c.loop-block.invariant in
     (b.0 ∙ i.0, rw b.2 (writes.counted_more i.1 c.in-Some.block.now _ (b.1.1 ∙ i.0) b.1.0 c.escapes_in-n-in-loop-block.ensures))
-

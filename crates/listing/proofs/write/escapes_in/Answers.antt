@@ -13,4 +13,3 @@ loop-b-preserved c =
     let l = c.loop-b in
     let k = writes.escape_adds _ c.has_escape.result c.has_escape.ensures c.from-n.ensures in
     (omega arith, writes.escapes_byte c.args.block.now l.b-index (omega arith) l.invariant.1 k)
-

@@ -18,4 +18,3 @@ loop-b-preserved c =
       rw c.from-feeds.ensures (counts.counted_test is_feed s l.b-index l.invariant.2 (omega arith) refl),
       rw c.from-firsts.ensures (counts.counted_test is_first s l.b-index l.invariant.3 (omega arith) (ap not c.is_tail.ensures)),
     )
-

@@ -27,16 +27,16 @@ returns-then-valid-text c =
     rw c.valid_up_to-valid.ensures
     (record { means = laws.check_4 _ _ _ (laws.options_few c.in_ok-o.ensures) (omega arith) c.if-words-ne0.false (omega (arith, c.span_count.ensures)) (omega (arith, c.valid_up_to-valid.ensures)) })
 
-pub returns-then-bad-span_count : goal.returns-then-bad-span_count
-returns-then-bad-span_count c =
+pub returns-in-Some : goal.returns-in-Some
+returns-in-Some c =
     record {
       means = laws.check_5 _ _ _ (laws.options_few c.in_ok-o.ensures) (omega arith) c.if-words-ne0.false (omega (arith, c.span_count.ensures)) (omega (arith, c.valid_up_to-valid.ensures))
-          (c.first_bad-bad.ensures.found (omega (arith, c.span_count-2.ensures)));
+          c.in-Some.ensures.means;
     }
 
 pub returns : goal.returns
 returns c =
     record {
       means = laws.check_good _ _ _ (laws.options_few c.in_ok-o.ensures) (omega arith) c.if-words-ne0.false (omega (arith, c.span_count.ensures)) (omega (arith, c.valid_up_to-valid.ensures))
-          (sym c.in_ok-o.ensures) (c.first_bad-bad.ensures.absent (omega (arith, c.span_count-2.ensures)));
+          (sym c.in_ok-o.ensures) c.in_default.ensures.means;
     }

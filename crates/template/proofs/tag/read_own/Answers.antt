@@ -11,4 +11,3 @@ pub returns-else-left : goal.returns-else-left
 returns-else-left c =
     let a = c.args in
     laws.own_done a.input.now.text.now a.input.now.words.now a.from a.limit a.left c.in_ok-x.ensures (rw c.if-left.false)
-

@@ -18,4 +18,3 @@ loop-block-preserved c =
     let b = c.in-Some.ensures.steps in
     let i = c.loop-block.invariant in
     (b.0 ∙ i.0, writers.escaped_block i.1 c.in-Some.block.now _ b.1.0 c.write_block.ensures)
-

@@ -13,4 +13,3 @@ pub loop-b-preserved : goal.loop-b-preserved
 loop-b-preserved c =
     let l = c.loop-b in
     (l.invariant.0, writes.escaped_more c.args.text.now l.b-index (omega arith) (omega arith) l.invariant.1 c.store_escaped-p.ensures)
-
