@@ -40,6 +40,7 @@ struct Lines {
 }
 
 // The number from offset `at` on, with the byte `mark` behind it, and the offset behind that byte.
+// Stays: bytes and an offset, here, below and in the other files: the part from the offset on would lose where it is in the card.
 fn read_field(input: &[u8], at: usize, mark: u8) -> Option<(u32, usize)>
     ensures { FieldIs input.now at mark result }
 {

@@ -9,6 +9,7 @@ use support::bytes::part;
 use template::compile::compile2;
 
 // `compile2` of a card's parts, with 65,536 bytes lent.
+// Stays: the line of a refusal is this program's, and `replay_cards` has it twice; `Refusal` is of a crate that prints nothing.
 // Stays: `text`, `words` and `options` are three parameters, the options a number, as document 01's call has
 // them: a struct would be taken apart at once.
 // Stays: here and below arrays, since there is no heap: memory is fixed, and lent to what fills it.

@@ -20,6 +20,7 @@ pub enum LiteralError {
 }
 
 // Behind a digit of a number: an exponent, or what follows the number.
+// Stays: the two counts, here and in the next two, are two numbers, as `Mode::InNumber` has them.
 fn exponent_or(n: usize, e: usize, top: Option<Bracket>, c: u8) -> Act
     ensures { ExponentIs n e top c result }
 {

@@ -28,6 +28,7 @@ fn show_then(rt: &impl Print, words: &[u32], k: usize) -> io::Result<()> {
     }
 }
 
+// Stays: `Fault` is a type of another crate, so that no `Display` can be written here.
 fn show_fault(rt: &impl Print, f: Fault) -> io::Result<()> {
     match f {
         Fault::Ended => rt.print(" ended"),

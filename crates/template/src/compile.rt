@@ -36,6 +36,7 @@ impl Marks {
 // listing that is longer than the buffer and fits the output is made again, there. The sizes are those of the
 // tables of lines, of the store and of the buffer: to fill long arrays would take a tenth of the time of a
 // short text with few spans.
+// Stays: the bounds of the sizes, here, in `walk` and in `write_tree`, are clauses, since no type says them of a const parameter.
 fn compile_in<const LINES: usize, const STORE: usize, const ROOM: usize>(
     text: &[u8],
     words: &[u32],

@@ -52,6 +52,7 @@ fn link_of(from: usize, limit: usize) -> Subexpression
 }
 
 // P: line:column or `-`.
+// Stays: the writer, the input and the place are apart, here and below: each writer takes those that it needs.
 // Stays: line 0 for no place, as the store is filled with; line numbers begin with 1.
 fn write_place(w: &mut Writer, p: Place)
     ensures { Wrote (write_field (place_field (place_means p))) w.old w.new }

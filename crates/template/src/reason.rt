@@ -274,6 +274,8 @@ fn is_empty_name(text: &[u8], a: Option<Name>) -> bool
 }
 
 // 10: the end of a helper or raw block has another name.
+// Stays: the text, the tag and both names, here, below and in `refusal_of`, which asks the two in turn: a struct for three functions
+// would be taken apart in each.
 pub(crate) fn helper_name_differs(
     text: &[u8],
     tag: u32,

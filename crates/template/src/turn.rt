@@ -70,6 +70,7 @@ fn filled(f: Frame, first: usize, last: usize) -> Frame
 }
 
 // Nothing happens, or `join` joins the body on top.
+// Stays: functions of an `Open`, here and below. As methods they would read the same.
 // Stays: field by field, since a plan has other names than `Open`, and more of them.
 fn plain(o: Open, made: Element, len: usize, join: usize) -> Plan
     ensures { result ≡ plain_plan o made len join }
