@@ -57,6 +57,10 @@ pub record BlockIs (s block rest : Bytes) : Type 0 where
   pub behind : rest ≡ drop (first_number (first_line s)) (after_line s)
   pub less : length rest < length s
 
+-- three words for each of the 4,096 spans that a list may have
+abbrev pub max_words : ℕ
+max_words = 12288
+
 -- at most k records, each a text and at most n words
 unfoldable pub records_by : ℕ → ℕ → Bytes → List (Bytes × List ℕ)
 records_by zero n s = []

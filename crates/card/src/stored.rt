@@ -2,7 +2,7 @@
 // with a length and so many bytes.
 ghost use Rattle.std.specs.Prelude.{◌≡◌, ◌+◌, length, drop, [], MatchOption};
 ghost use Rattle.std.specs.Iterator.{at_most};
-ghost use Rattle.card.specs.Stored.{first_line, after_line, FirstLineIs, WordsIs, RecordIs, BlockIs, records, AnswersIn};
+ghost use Rattle.card.specs.Stored.{first_line, after_line, FirstLineIs, WordsIs, RecordIs, BlockIs, max_words, records, AnswersIn};
 
 use crate::number::read_digits;
 use std::io;
@@ -92,14 +92,18 @@ pub struct Replay<'a> {
 }
 
 impl<'a> Replay<'a> {
-    // Calls `show` at each record, in order, up to the first error. The words are stored in the memory that is
-    // lent, as far as there is room.
-    pub fn run(&self, input: &[u8], words: &mut [u32]) -> io::Result<()>
+    // How many words a record has at most: three for each span that a list may have.
+    pub const WORDS: usize = 12288;
+
+    // Calls `show` at each record, in order, up to the first error.
+    // Stays: an array, since there is no heap.
+    pub fn run(&self, input: &[u8]) -> io::Result<()>
         ensures { AnswersIn (λ text line r. (t w : _) × (t.now ≡ text) × (w.now ≡ line) × post self.now.show self.now.rt t w r)
-            (records (length words.old) input.now) result }
+            (records max_words input.now) result }
     {
+        let mut words = [0u32; Replay::WORDS];
         for (text, line) in Records::new(input) {
-            let n = read_words(line, words);
+            let n = read_words(line, &mut words);
             (self.show)(self.rt, text, &words[..n])?;
         }
         Ok(())

@@ -105,10 +105,9 @@ fn show_record(rt: &impl Print, text: &[u8], words: &[u32]) -> io::Result<()> {
 fn main(rt: HostRuntime) -> io::Result<()> {
     let mut input = [0u8; LIMIT];
     let n = read_full(&mut rt.stdin(), &mut input)?;
-    let mut words = [0u32; 3 * Span::LIMIT];
     let replay = Replay {
         rt: &rt,
         show: |rt, text, words| show_record(rt, text, words),
     };
-    replay.run(&input[..n], &mut words)
+    replay.run(&input[..n])
 }

@@ -6,7 +6,7 @@
 use card::input::read_full;
 use card::stored::Replay;
 use expression::parameter::Subexpression;
-use json_path::span::{Span, span_at, span_count};
+use json_path::span::{span_at, span_count};
 use listing::writer::Writer;
 use std::io;
 use support::bytes::part;
@@ -127,10 +127,9 @@ fn main(rt: HostRuntime) -> io::Result<()> {
     let n = read_full(&mut rt.stdin(), &mut input)?;
     show_bytes(&rt)?;
     show_numbers(&rt)?;
-    let mut words = [0u32; 3 * Span::LIMIT];
     let replay = Replay {
         rt: &rt,
         show: |rt, text, words| show_record(rt, text, words),
     };
-    replay.run(&input[..n], &mut words)
+    replay.run(&input[..n])
 }
