@@ -100,8 +100,8 @@ fn show_record(rt: &impl Print, text: &[u8], words: &[u32]) -> io::Result<()> {
     show_at(rt, text, words, usize::MAX)
 }
 
-// Stays: the lines of `replay_expressions`, since what the two share is `read_full` and `Replay`. The memory is
-// arrays that are lent, since there is no heap.
+// Stays: the lines of `replay_expressions`, since what the two share is `read_full` and `Replay`. The input is
+// an array that is lent, since there is no heap.
 fn main(rt: HostRuntime) -> io::Result<()> {
     let mut input = [0u8; LIMIT];
     let n = read_full(&mut rt.stdin(), &mut input)?;
