@@ -93,7 +93,7 @@ fn write_indent(w: &mut Writer, text: &[u8], d: DecoratorTemplate)
     let Some(end) = d.indent else {
         return w.put_bytes(b" -");
     };
-    let blanks = find_trailing_whitespace_chars(part(text, 0, end));
+    let blanks = find_trailing_whitespace_chars(part(text, 0, end as usize));
     if blanks.len() == 0 {
         return w.put_bytes(b" -");
     }

@@ -1,11 +1,10 @@
 // What a walked span does: why it turns the card away, or the step that it makes.
-ghost use Rattle.std.specs.Prelude.{◌≡◌, List, Bool, true, false, ◌&&◌, ◌||◌, not, ℕ, ◌+◌, ◌≤◌, ◌<◌, Ok, eqb, length, drop};
+ghost use Rattle.std.specs.Prelude.{◌≡◌, List, Bool, true, false, ◌&&◌, ◌||◌, not, ℕ, ◌+◌, ◌≤◌, ◌<◌, ◌^◌, Ok, eqb, length, drop};
 ghost use Rattle.support.specs.Bytes.{Bytes, if, is_empty};
 ghost use Rattle.support.specs.TextRules.{starts_with_empty_line};
 ghost use Rattle.json_path.specs.Span.{span_count};
 ghost use Rattle.json_path.specs.Answers.{Walked};
 ghost use Rattle.template.specs.Kind.{plain, skipped, kind_of};
-ghost use Rattle.template.specs.Checks.{max_spans};
 ghost use Rattle.template.specs.Step.{after_gap, standalone};
 ghost use Rattle.template.specs.Element.{new_element};
 ghost use Rattle.template.specs.Visit.{stage_means, some_step, VisitIs};
@@ -186,13 +185,14 @@ fn helper(x: TagExpression, s: Span, indent: bool) -> HelperTemplate
 }
 
 fn decorator(x: TagExpression, s: Span, mark: bool, indent: bool) -> DecoratorTemplate
+    requires { s.start < 2 ^ 32 }
     ensures { result ≡ decorator_of x s mark indent }
 {
     DecoratorTemplate {
         from: x.from,
         limit: s.end,
         indent_before_write: mark,
-        indent: indent.then_some(s.start),
+        indent: indent.then_some(s.start as u32),
     }
 }
 
@@ -200,6 +200,7 @@ fn decorator(x: TagExpression, s: Span, mark: bool, indent: bool) -> DecoratorTe
 // Stays: here and below a tag is a number, as document 01's match over it has ranges: an enum would name 20 tags where these
 // name a few ranges.
 fn element_of(s: Span, x: TagExpression, mark: bool, indent: bool) -> TemplateElement
+    requires { s.start < 2 ^ 32 }
     ensures { ElementIs s x mark indent result }
 {
     let h = helper(x, s, mark);
