@@ -30,6 +30,7 @@ pub mod Fits
 pub mod OpenSteps
 pub mod CloseSteps
 pub mod Trims
+pub mod ChainHeads
 pub mod Turns
 pub mod Ready
 pub mod ElementWrites

@@ -28,6 +28,10 @@ use Rattle.template.specs.declared.turn.Standing.{Standing}
 abbrev pub empty_frame : Frame
 empty_frame = record { opened = O.Root; block = 0; head = 0; first = 0; last = 0; chain = false; inverted = false }
 
+-- the newest else-if node, if there is one
+unfoldable pub head_of : ℕ → Option ℕ
+head_of n = if (eqb n 0) None (Some n)
+
 -- the element that the open body belongs to: the newest else-if node, or the block
 unfoldable pub ref_chain_head : ℕ → ℕ → ℕ
 ref_chain_head block head = if (eqb head 0) block head

@@ -177,14 +177,14 @@ impl Element {
     pub(crate) fn trim_end(self, back: Back) -> Element
         ensures { result ≡ trim_end_of self back }
     {
-        let TemplateElement::RawString(r) = self.element else {
-            return self;
-        };
-        let back = more_of(r.back, back);
-        Element {
-            element: TemplateElement::RawString(RawString { back, ..r }),
-            ..self
+        if let TemplateElement::RawString(r) = self.element {
+            let back = more_of(r.back, back);
+            return Element {
+                element: TemplateElement::RawString(RawString { back, ..r }),
+                ..self
+            };
         }
+        self
     }
 
     pub(crate) fn has_body(self) -> bool

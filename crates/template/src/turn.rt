@@ -2,18 +2,28 @@
 // open body, the frames, and what joins the body. What does not change is stored again as it was.
 ghost use Rattle.std.specs.Prelude.{◌≡◌, ◌≤◌, ◌<◌, length};
 ghost use Rattle.template.specs.Element.{empty_element};
-ghost use Rattle.template.specs.Turn.{OpenFits, ref_chain_head, emptied, filled, plain_plan, begin_plan, chain_plan, template_plan, shut_plan, revert_plan, inverse_plan, close_plan, add_plan, act_plan, plan_of, turn_of, JoinedIs, gapped_of, TurnFits, TurnIs};
+ghost use Rattle.template.specs.Turn.{OpenFits, head_of, ref_chain_head, emptied, filled, plain_plan, begin_plan, chain_plan, template_plan, shut_plan, revert_plan, inverse_plan, close_plan, add_plan, act_plan, plan_of, turn_of, JoinedIs, gapped_of, TurnFits, TurnIs};
 
 use crate::element::Element;
 use crate::frame::{Frame, Marks, Opened};
 use crate::visit::{Act, Added, Here, Step};
 use support::position::Place;
 
+// The newest else-if node of an open block, if it has one.
+fn chain_head(head: usize) -> Option<usize>
+    ensures { result ≡ head_of head }
+{
+    if head == 0 { None } else { Some(head) }
+}
+
 // The element that the open body belongs to: the newest else-if node, or the block.
 pub(crate) fn ref_chain_head(block: usize, head: usize) -> usize
     ensures { result ≡ ref_chain_head block head }
 {
-    if head == 0 { block } else { head }
+    let Some(node) = chain_head(head) else {
+        return block;
+    };
+    node
 }
 
 // A turn: the act of a span; an else-if node is turned round; the block is complete.
@@ -231,12 +241,12 @@ pub(crate) fn turn_of(closing: bool, head: usize, act: Act) -> Turn
     ensures { result ≡ turn_of closing head act }
 {
     if !closing {
-        Turn::Act(act)
-    } else if head == 0 {
-        Turn::Set
-    } else {
-        Turn::Revert
+        return Turn::Act(act);
     }
+    let Some(_) = chain_head(head) else {
+        return Turn::Set;
+    };
+    Turn::Revert
 }
 
 // The frame with the element at `at`, if there is one, behind the last one of its body.

@@ -1,12 +1,10 @@
--- By the test of the head. Assumes nothing.
-use borrow.Author.Tests.{eq-eqb, ne_eqb}
-use Rattle.template.specs.Turn.{ref_chain_head}
+-- By what the head tells: proofs/ChainHeads. Assumes nothing.
+use mathlib.Core.Path.{sym, ◌∙◌}
+use Rattle.template.proofs.ChainHeads as heads
 use Rattle.template.proofs.turn.ref_chain_head.Goals as goal
 
-pub returns-then-head-eq0 : goal.returns-then-head-eq0
-unfolding ref_chain_head
-returns-then-head-eq0 c = rw (eq-eqb _ 0 c.if-head-eq0.true)
+pub returns-in_default : goal.returns-in_default
+returns-in_default c = heads.owner_block _ _ (sym c.chain_head.ensures ∙ c.in_default.is)
 
-pub returns-else-head-eq0 : goal.returns-else-head-eq0
-unfolding ref_chain_head
-returns-else-head-eq0 c = rw (ne_eqb _ 0 c.if-head-eq0.false)
+pub returns : goal.returns
+returns c = heads.owner_node _ _ _ (sym c.chain_head.ensures ∙ c.in-Some.is)
