@@ -6,7 +6,6 @@ ghost use Rattle.template.specs.Answers.{AnswerIs};
 ghost use Rattle.template.specs.Element.{Good};
 ghost use Rattle.template.specs.Finish.{walk_answer};
 
-use crate::element::Element;
 use crate::frame::Marks;
 use crate::input::Input;
 use crate::lines::find_lines;
@@ -15,6 +14,9 @@ use crate::refusal::{Reason, Refusal};
 use crate::visit::Options;
 use crate::walk::walk;
 use json_path::span::span_count;
+
+// Public here, so that other crates can name the sizes of the buffers.
+pub use crate::element::Element;
 
 impl Element {
     // How many bytes a buffer has that elements are listed into. A longer listing costs a second walk.
