@@ -94,15 +94,19 @@ pub fn next_segment(text: &[u8], words: &[u32], path: Relative) -> Option<(PathS
     ensures { SegmentIs text.now words.now path result }
 {
     let mut at = path.from;
-    while let Some(s) = next_span(words, at)
-        && s.end <= path.raw.end
-    {
+    // Stays: a `loop` with `let else`, document 01's form for the next span.
+    loop {
+        let Some(s) = next_span(words, at) else {
+            return None;
+        };
+        if path.raw.end < s.end {
+            return None;
+        }
         at = s.number + 1;
         if let Some(segment) = segment_of(text, s) {
             return Some((segment, Relative { from: at, ..path }));
         }
     }
-    None
 }
 
 // The segments are ups and a name: how many ups, and the name.
@@ -131,11 +135,10 @@ fn ups_and_name(text: &[u8], words: &[u32], path: Relative) -> Option<(usize, Na
 fn get_local_path_and_level(text: &[u8], words: &[u32], path: Relative) -> Option<(usize, Name)>
     ensures { local_means text.now result ≡ local_name (segments_mean text.now words.now path) }
 {
-    let (segment, rest) = next_segment(text, words, path)?;
-    match segment {
-        PathSeg::Here => ups_and_name(text, words, rest),
-        _ => None,
-    }
+    let Some((PathSeg::Here, rest)) = next_segment(text, words, path) else {
+        return None;
+    };
+    ups_and_name(text, words, rest)
 }
 
 impl Path {
