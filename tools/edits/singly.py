@@ -54,7 +54,8 @@ def dev(copy, name):
 
 
 def by_dev(copy, names):
-    """Each wrong program put into the crate, and taken out again."""
+    """Each wrong program put into the crate, and taken out again. A further pair of a program applies to what
+    the earlier ones made."""
     missed = 0
     for name in names:
         crate = copy / "crates" / name
@@ -62,14 +63,17 @@ def by_dev(copy, names):
             sys.exit(f"{name} is not proved as it is")
         for path in sorted((crate / "must-fail").glob("*.edit")):
             for program in programs(path):
-                where, old, new = (re.search(rf"^{key}: (.*)$", program, re.M)[1] for key in ("file", "old", "new"))
-                file = crate / where
-                right = file.read_text()
-                file.write_text(right.replace(old, new))
+                where, olds, news = (re.findall(rf"^{key}: (.*)$", program, re.M) for key in ("file", "old", "new"))
+                file = crate / where[0]
+                right = wrong = file.read_text()
+                for old, new in zip(olds, news, strict=True):
+                    wrong = wrong.replace(old, new)
+                file.write_text(wrong)
                 error = dev(copy, name)
                 file.write_text(right)
                 missed += error is None
-                print(f"{name}: {old.strip()} -> {new.strip()}\n    {(error or 'NOT REFUSED')[:300]}", flush=True)
+                texts = ", ".join(f"{old.strip()} -> {new.strip()}" for old, new in zip(olds, news))
+                print(f"{name}: {texts}\n    {(error or 'NOT REFUSED')[:300]}", flush=True)
     return 1 if missed else 0
 
 
