@@ -1,5 +1,5 @@
 -- Writing one after the other: the bytes of two writers in turn are the bytes of both joined. Assumes nothing.
-use Prim.Native.Nat.{ℕ, zero, suc, ◌+◌, ◌-◌, ◌/◌, ◌%◌, ◌≤◌, ◌<◌, min}
+use Prim.Native.Nat.{ℕ, zero, suc, ◌+◌, ◌-◌, ◌/◌, ◌%◌, ◌≤◌, ◌<◌}
 use native.Mathlib.Omega.{arith}
 use native.Mathlib.Nat.{add-zero, add-suc, suc-add}
 use native.Mathlib.Numerals.{add-one}
@@ -10,11 +10,8 @@ use mir.Val.{bool_byte}
 use Rattle.std.specs.Bool.{MatchBool}
 use lib.Dec.{leb, ltb, eqb}
 use lib.ListN.{length, get_or, take, drop, set, length-append, length-take, length-drop, take-append-drop}
-use lib.Seq.{drop-append-add, sets, paste, set_out, length-sets, take-suc, take_all}
-use borrow.Rule.Slice.PartMut.{put_mid}
+use lib.Seq.{drop-append-add, sets, set_out, length-sets, take-suc, take_all}
 use Rattle.std.proofs.lemmas.List.{nil_from_length}
-use Rattle.std.proofs.lemmas.List.Edits.{sets-eq}
-use Rattle.std.proofs.lemmas.Slice.{put_mid-paste}
 use borrow.Author.Tests.{leb-true, leb-false, ltb-false, lt-ltb, le-ltb, ne_eqb, eqb-true, eqb-false}
 use Rattle.support.specs.Bytes.{Bytes, ascii, if}
 use Rattle.listing.specs.Quoted.{escape, escaped, digits, decimal}
@@ -57,16 +54,17 @@ written_then {x} {y} {l} {m} {n} {at} {p} {r} h a b =
 pub written_length : {w l m : Bytes} {at r : ℕ} → Written w l at m r → length m ≡ length l
 written_length {w} {l} {m} {at} a = ap length a.stored ∙ length-sets l at w
 
--- what is copied as far as there is room is what is stored
-pub filled : (l w part : Bytes) (at n k : ℕ) → at < length l → n ≡ min (length w) (length l - at) → k ≡ n → part ≡ take n w → put_mid at k l part ≡ sets l at w
-filled l w part at n k h m q e =
-    let o : length (take n w) ≡ n = omega (arith, length-take n w) in
-    let a : paste l at (take n w) n ≡ sets l at (take n w) = rw (take_all n (take n w) (omega arith)) (sym (sets-eq (take n w) l at (omega arith) ∙ ap (λ z. take at l ++ take n w ++ drop (at + z) l) o)) in
-    put_mid-paste at k l part (take n w) n e (sym q) (sym o) ∙ a ∙ sym (go (leb (length w) (length l - at)) refl) ∙ sets_append l at (take n w) (drop n w) ∙ ap (sets l at) (take-append-drop n w)
-  where
-    go : (u : Bool) → leb (length w) (length l - at) ≡ u → sets (sets l at (take n w)) (at + length (take n w)) (drop n w) ≡ sets l at (take n w)
-    go true f = rw (nil_from_length (drop n w) (omega (arith, leb-true (length w) (length l - at) f, length-drop n w)))
-    go false f = sets_out (sets l at (take n w)) (at + length (take n w)) (drop n w) (omega (arith, leb-false (length w) (length l - at) f, length-take n w, length-sets l at (take n w)))
+-- one more byte is copied, where there is room for all
+pub copied_more : {l m : Bytes} {at : ℕ} (s : Bytes) (i : ℕ) → at + length s ≤ length l → length l ≤ largest → i < length s → Written (take i s) l at m (at + i)
+    → Written (take (i + 1) s) l at (set m (at + i) (get_or s i 0)) (at + (i + 1))
+copied_more s i h g k a = rw (add-one i, take-suc s i 0 k) (written_then g a (record { stored = refl; next = omega arith }))
+
+-- what is copied of a text up to the end of the output is what is stored of the whole text
+pub copied_end : {l m : Bytes} {at r : ℕ} (s : Bytes) (n : ℕ) → n ≤ length s → length l ≤ at + n → Written (take n s) l at m r → m ≡ sets l at s
+copied_end {l} {m} {at} s n h k a =
+    let o : length l ≤ at + length (take n s) = omega (arith, length-take n s) in
+    let q = length-sets l at (take n s) in
+    a.stored ∙ sym (sets_out (sets l at (take n s)) (at + length (take n s)) (drop n s) (omega arith)) ∙ sets_append l at (take n s) (drop n s) ∙ ap (sets l at) (take-append-drop n s)
 
 -- a walk over a text has passed the bytes before `rest`, and those have the property
 pub record Passed (P : Bytes → Type 0) (s rest : Bytes) : Type 0 where

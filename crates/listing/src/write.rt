@@ -44,6 +44,33 @@ fn store_escaped(out: &mut [u8], at: usize, b: u8) -> usize
     }
 }
 
+// Copies bytes for which there is room.
+// Stays: byte by byte. `copy_from_slice` between two slices that are lent is compiled to a call of `memmove`, which nothing else of
+// the archive for C needs from outside.
+fn copy_to(out: &mut [u8], at: usize, bytes: &[u8]) -> usize
+    requires { at + length bytes.now ≤ length out.old }
+    ensures { Written bytes.now out.old at out.new result }
+{
+    for (i, b) in bytes.iter().enumerate() {
+        out[at + i] = *b;
+    }
+    at + bytes.len()
+}
+
+// Stores these bytes as far as there is room, and counts them all.
+fn store_bytes(out: &mut [u8], at: usize, bytes: &[u8]) -> usize
+    ensures { Written bytes.now out.old at out.new result }
+{
+    if at < out.len() {
+        let room = out.len() - at;
+        if bytes.len() <= room {
+            return copy_to(out, at, bytes);
+        }
+        copy_to(out, at, &bytes[..room]);
+    }
+    at.saturating_add(bytes.len())
+}
+
 // Stays: beside the match of `store_escaped`. An `Option` of the letter would do for both, but here a block is only counted.
 fn has_escape(b: u8) -> bool
     ensures { MatchBool result (length (escape b) ≡ 2) (escape b ≡ b ∷ []) }
@@ -115,16 +142,7 @@ impl<'a> Writer<'a> {
     pub fn put_bytes(&mut self, bytes: &[u8])
         ensures { Wrote bytes.now self.old self.new }
     {
-        let at = self.at;
-        if at < self.out.len() {
-            let room = self.out.len() - at;
-            if bytes.len() <= room {
-                self.out[at..at + bytes.len()].copy_from_slice(bytes);
-            } else {
-                self.out[at..].copy_from_slice(&bytes[..room]);
-            }
-        }
-        self.at = at.saturating_add(bytes.len());
+        self.at = store_bytes(self.out, self.at, bytes);
     }
 
     // One byte of a quoted text.
