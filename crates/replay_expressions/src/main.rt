@@ -21,54 +21,53 @@ use std::io;
 const LIMIT: usize = 65536;
 
 // The number of the next walked span, or `end`.
+// Stays: what is fixed goes out by `write_all`, here and below. `print` makes a buffer of 1 KiB for each piece, and many
+// parameters took a third longer.
 fn show_then(rt: &impl Print, words: &[u32], k: usize) -> io::Result<()> {
     match next_span(words, k) {
         Some(s) => print!(rt; " then {}", s.number),
-        None => rt.print(" then end"),
+        None => rt.write_all(b" then end"),
     }
 }
 
 // Stays: `Fault` is a type of another crate, so that no `Display` can be written here.
 fn show_fault(rt: &impl Print, f: Fault) -> io::Result<()> {
     match f {
-        Fault::Ended => rt.print(" ended"),
-        Fault::NotAllowed => rt.print(" not-allowed"),
-        Fault::InvalidLiteral => rt.print(" invalid"),
-        Fault::OverLimit => rt.print(" over"),
+        Fault::Ended => rt.write_all(b" ended"),
+        Fault::NotAllowed => rt.write_all(b" not-allowed"),
+        Fault::InvalidLiteral => rt.write_all(b" invalid"),
+        Fault::OverLimit => rt.write_all(b" over"),
     }
 }
 
-fn show_slice(rt: &impl Print, bytes: &[u8]) -> io::Result<()> {
-    rt.print(" <")?;
-    rt.write_all(bytes)?;
-    rt.print(">")
-}
-
 fn show_name(rt: &impl Print, text: &[u8], name: Name) -> io::Result<()> {
-    show_slice(rt, name.text(text))
+    rt.write_all(b" <")?;
+    rt.write_all(name.text(text))?;
+    rt.write_all(b">")
 }
 
 // The name that a parameter gives.
 fn show_as_name(rt: &impl Print, text: &[u8], p: Parameter) -> io::Result<()> {
     match p.as_name() {
         Some(name) => show_name(rt, text, name),
-        None => rt.print(" nameless"),
+        None => rt.write_all(b" nameless"),
     }
 }
 
 fn show_path(rt: &impl Print, text: &[u8], path: Path) -> io::Result<()> {
     match path {
-        Path::Relative(_) => rt.print(" path")?,
-        Path::Local(p) => print!(rt; " local {}", p.level)?,
+        Path::Relative(_) => rt.write_all(b" path <")?,
+        Path::Local(p) => print!(rt; " local {} <", p.level)?,
     }
-    show_slice(rt, path.raw(text))
+    rt.write_all(path.raw(text))?;
+    rt.write_all(b">")
 }
 
 // A subexpression is shown by its link: what it holds stands in the line of its tag.
 fn show_parameter(rt: &impl Print, text: &[u8], p: Parameter) -> io::Result<()> {
     match p {
         Parameter::Name(name) => {
-            rt.print(" name")?;
+            rt.write_all(b" name")?;
             show_name(rt, text, name)
         }
         Parameter::Path(path) => show_path(rt, text, path),
@@ -122,7 +121,7 @@ fn show_params(rt: &impl Print, text: &[u8], words: &[u32], parts: Parts) -> io:
     loop {
         match next_param(text, words, rest) {
             Ok(Some((v, after))) => {
-                rt.print(" param")?;
+                rt.write_all(b" param")?;
                 show_parameter(rt, text, v)?;
                 rest = after;
             }
@@ -138,7 +137,7 @@ fn show_keys(rt: &impl Print, text: &[u8], words: &[u32], parts: Parts) -> io::R
     for _ in 0..span_count(words) {
         match next_key(text, words, parts, bound) {
             Ok(Some(h)) => {
-                rt.print(" key")?;
+                rt.write_all(b" key")?;
                 show_hash(rt, text, h)?;
                 bound = Some(h.key);
             }
@@ -160,10 +159,10 @@ fn show_expression(
     show_as_name(rt, text, x.name)?;
     show_params(rt, text, words, x.parts)?;
     show_keys(rt, text, words, x.parts)?;
-    rt.print(" as")?;
+    rt.write_all(b" as")?;
     match x.block_param {
         Some(block) => show_block_param(rt, text, block)?,
-        None => rt.print(" none")?,
+        None => rt.write_all(b" none")?,
     }
     print!(rt; " {}", u8::from(x.omit_pro_ws))?;
     show_then(rt, words, x.next)
@@ -189,25 +188,25 @@ fn show_at(rt: &impl Print, text: &[u8], words: &[u32], k: usize, depth: usize) 
     show_read(rt, words, parse_tilde(words, at), |left| {
         print!(rt; " {}", u8::from(left))
     })?;
-    rt.print(" | block")?;
+    rt.write_all(b" | block")?;
     let block = parse_block_param(words, at, s.end);
     show_read(rt, words, block, |b| show_block_param(rt, text, b))?;
-    rt.print(" | name")?;
+    rt.write_all(b" | name")?;
     let name = parse_name(text, words, at, depth, true);
     show_read(rt, words, name, |p| show_parameter(rt, text, p))?;
-    rt.print(" | param")?;
+    rt.write_all(b" | param")?;
     let param = parse_param(text, words, at, depth, true);
     show_read(rt, words, param, |p| show_parameter(rt, text, p))?;
-    rt.print(" | hash")?;
+    rt.write_all(b" | hash")?;
     let hash = parse_hash(text, words, at, depth, true);
     show_read(rt, words, hash, |h| show_hash(rt, text, h))?;
-    rt.print(" | sub")?;
+    rt.write_all(b" | sub")?;
     let sub = parse_subexpression(text, words, at, s.end, depth, true);
     show_read(rt, words, sub, |p| show_parameter(rt, text, p))?;
-    rt.print(" | expression")?;
+    rt.write_all(b" | expression")?;
     let expression = parse_expression(text, words, at, s.end, depth, true);
     show_expression_read(rt, text, words, expression)?;
-    rt.println("")
+    rt.write_all(b"\n")
 }
 
 // The same by a link, with the full depth and with literals as they stand.
@@ -220,7 +219,7 @@ fn show_entered(rt: &impl Print, text: &[u8], words: &[u32], k: usize) -> io::Re
     };
     print!(rt; "{k} entered")?;
     show_expression_read(rt, text, words, enter(text, words, link))?;
-    rt.println("")
+    rt.write_all(b"\n")
 }
 
 // Every number up to one past the last span, with a depth of 0, 1 and 2 in turn and by a link, and the

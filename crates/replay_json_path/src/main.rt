@@ -13,27 +13,29 @@ use std::io;
 const LIMIT: usize = 65536;
 
 // The number of a span, or the word that says that there is none.
-fn show_span(rt: &impl Print, span: Option<Span>, none: &str) -> io::Result<()> {
+// Stays: what is fixed goes out by `write_all`, here and below. `print` makes a buffer of 1 KiB for each piece, and long paths took
+// a third longer.
+fn show_span(rt: &impl Print, span: Option<Span>, none: &[u8]) -> io::Result<()> {
     match span {
         Some(s) => rt.print(s.number),
-        None => rt.print(none),
+        None => rt.write_all(none),
     }
 }
 
 // The number of the next walked span, or `end`.
 fn show_next(rt: &impl Print, words: &[u32], k: usize) -> io::Result<()> {
-    show_span(rt, next_span(words, k), "end")
+    show_span(rt, next_span(words, k), b"end")
 }
 
 fn show_segment(rt: &impl Print, text: &[u8], segment: PathSeg) -> io::Result<()> {
     match segment {
         PathSeg::Named(name) => {
-            rt.print(" seg ")?;
+            rt.write_all(b" seg ")?;
             rt.write_all(name.text(text))
         }
-        PathSeg::Root => rt.print(" root"),
-        PathSeg::Here => rt.print(" here"),
-        PathSeg::Up => rt.print(" up"),
+        PathSeg::Root => rt.write_all(b" root"),
+        PathSeg::Here => rt.write_all(b" here"),
+        PathSeg::Up => rt.write_all(b" up"),
     }
 }
 
@@ -59,7 +61,7 @@ fn show_path(
     let read = parse_json_path(text, words, reference, at);
     match read.path {
         Path::Relative(p) => {
-            rt.print(" path")?;
+            rt.write_all(b" path")?;
             show_segments(rt, text, words, p)?;
         }
         Path::Local(p) => {
@@ -67,9 +69,9 @@ fn show_path(
             rt.write_all(p.name.text(text))?;
         }
     }
-    rt.print(" raw ")?;
+    rt.write_all(b" raw ")?;
     rt.write_all(read.path.raw(text))?;
-    rt.print(" then ")?;
+    rt.write_all(b" then ")?;
     show_next(rt, words, read.next)
 }
 
@@ -82,12 +84,12 @@ fn show_at(rt: &impl Print, text: &[u8], words: &[u32], k: usize) -> io::Result<
         s.number, s.tag, s.start, s.end
     )?;
     show_next(rt, words, k)?;
-    rt.print(" escape ")?;
-    show_span(rt, escape_at(words, k), "none")?;
-    rt.print(" skip ")?;
+    rt.write_all(b" escape ")?;
+    show_span(rt, escape_at(words, k), b"none")?;
+    rt.write_all(b" skip ")?;
     show_next(rt, words, skip_to(words, s.end, k))?;
     show_path(rt, text, words, s, k.saturating_add(1))?;
-    rt.println("")
+    rt.write_all(b"\n")
 }
 
 // Every number up to two past the last span, and the largest of all.

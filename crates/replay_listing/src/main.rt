@@ -29,7 +29,7 @@ fn show_line<F: Fn(&mut Writer)>(rt: &impl Print, write: F) -> io::Result<()>
     write(&mut w);
     let n = w.at;
     rt.write_all(part(&out, 0, n))?;
-    rt.println("")
+    rt.write_all(b"\n")
 }
 
 // Every byte quoted, and all in one text.

@@ -37,7 +37,7 @@ fn answer(rt: &impl Print, kind: u8, text: &[u8]) -> io::Result<()> {
         }
         _ => rt.print(verdict(check_literal(text)))?,
     }
-    rt.println("")
+    rt.write_all(b"\n")
 }
 
 // The text of a record, which it reads into `text`.
