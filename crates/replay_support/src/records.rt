@@ -6,11 +6,14 @@ use std::io::{self, Bytes, Read};
 use support::bytes::part;
 use support::utf8::{is_char_boundary, valid_up_to};
 
-// Reads a record's bytes.
+// Reads a record's bytes. An end of the input takes the place of a byte and is read past, since a
+// terminal gives more after one.
 fn read_text<R: Read + Drop>(bytes: &mut Bytes<R>, size: u8) -> io::Result<Text> {
     let mut text = Text::new();
-    for b in bytes.take(size as usize) {
-        text.push(b?);
+    for _ in 0..size {
+        if let Some(b) = bytes.next() {
+            text.push(b?);
+        }
     }
     Ok(text)
 }
