@@ -1,9 +1,10 @@
 -- A clause of `strip_first_newline` for each way out. Assumes nothing.
+use Rattle.std.proofs.Common.{rules}
 use Rattle.support.proofs.TextLaws as text
 use Rattle.support.proofs.str.strip_first_newline.Goals as goal
 
 pub returns-in-Some : goal.returns-in-Some
-returns-in-Some c = let e = c.in-Some.ensures.cases in text.strip_crlf c.args.s.now e.0 e.1
+returns-in-Some c = let e = c.in-Some.ensures.cases in text.strip_crlf c.args.s.now e.0 (search rules)
 
 pub returns-in-Some-strip_prefix : goal.returns-in-Some-strip_prefix
 returns-in-Some-strip_prefix c = let e = c.in-Some-strip_prefix.ensures.cases in text.strip_lf c.args.s.now e.0 e.1

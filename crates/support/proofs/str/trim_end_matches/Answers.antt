@@ -13,7 +13,7 @@ pub loop-rest-preserved : goal.loop-rest-preserved
 loop-rest-preserved c =
     let l = c.loop-rest in
     let e = c.in-Some.ensures.cases in
-    (l.invariant.0, text.end_mark c.args.p.now l.left.now (omega arith) e.0 e.1 ∙ l.invariant.1)
+    (l.invariant.0, text.end_mark c.args.p.now l.left.now (omega arith) e.0 (search arith) ∙ l.invariant.1)
 
 pub returns : goal.returns
 returns c =

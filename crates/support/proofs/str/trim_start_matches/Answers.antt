@@ -2,6 +2,7 @@
 use mathlib.Core.Path.{sym, ◌∙◌}
 use lib.ListN.{length}
 use borrow.Author.Tests.{eqb-true}
+use Rattle.std.proofs.Common.{rules}
 use Rattle.support.proofs.TextLaws as text
 use Rattle.support.proofs.str.trim_start_matches.Goals as goal
 
@@ -12,7 +13,7 @@ pub loop-rest-preserved : goal.loop-rest-preserved
 loop-rest-preserved c =
     let l = c.loop-rest in
     let e = c.in-Some.ensures.cases in
-    (l.invariant.0, text.start_mark c.args.p.now l.left.now e.0 e.1 ∙ l.invariant.1)
+    (l.invariant.0, text.start_mark c.args.p.now l.left.now e.0 (search rules) ∙ l.invariant.1)
 
 pub returns : goal.returns
 returns c =
