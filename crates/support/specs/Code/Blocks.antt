@@ -1,9 +1,10 @@
 -- What is asked of a block of bytes, where a text is gone through by blocks. None of this is from a paper: the proofs tie it to UTF-8 and to line and column.
-use Rattle.std.specs.Prelude.{ℕ, suc, ◌+◌, ◌≤◌, ◌<◌, min, ◌⊎◌, ◌≡◌, [], ◌∷◌, Bool, true, false, not, eqb, length, get_or}
+use Rattle.std.specs.Prelude.{ℕ, suc, ◌+◌, ◌-◌, ◌≤◌, ◌<◌, min, ◌⊎◌, ◌≡◌, [], ◌∷◌, Bool, true, false, not, eqb, length, get_or, drop}
 use Rattle.support.specs.Bytes.{Bytes, if}
 use Rattle.support.specs.Position.{largest}
 use Rattle.support.specs.Utf8.{is_tail}
 use Rattle.support.specs.declared.position.Counts.{Counts}
+use Rattle.support.specs.declared.position.Lines.{Lines}
 
 -- how many of the bytes are of the class f
 unfoldable pub count : (ℕ → Bool) → Bytes → ℕ
@@ -23,6 +24,13 @@ is_first b = not (is_tail b)
 pub record CountsAre (s : Bytes) (r : Counts) : Type 0 where
   pub feeds : r.feeds ≡ count is_feed s
   pub firsts : r.firsts ≡ count is_first s
+
+-- and where their last line starts: after the last LF, at 0 where there is none
+pub record LinesAre (s : Bytes) (r : Lines) : Type 0 where
+  pub counts : CountsAre s r.counts
+  pub inside : r.start ≤ length s
+  pub after : 0 < r.start → get_or s (r.start - 1) 0 ≡ 10
+  pub none : count is_feed (drop r.start s) ≡ 0
 
 -- a line or a column with so many more; the largest number stays
 abbrev pub more : ℕ → ℕ → ℕ

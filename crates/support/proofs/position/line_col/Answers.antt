@@ -2,7 +2,6 @@
 use native.Mathlib.Omega.{arith}
 use mathlib.Core.Path.{sym, ap, ◌∙◌}
 use lib.ListN.{drop}
-use borrow.Author.Tests.{ne_eqb}
 use Rattle.support.specs.Position.{at}
 use Rattle.support.specs.Code.Blocks.{count, more, is_feed, is_first}
 use Rattle.support.proofs.Counts as counts
@@ -13,7 +12,7 @@ use Rattle.support.proofs.position.line_col.Goals as goal
 pub returns-then-n-eq0 : goal.returns-then-n-eq0
 returns-then-n-eq0 c =
     let a = c.args in
-    let n = c.count_all-n.ensures in
+    let n = c.lines_of-lines.ensures.counts in
     let s = a.bytes.now in
     let from = a.from in
     sym
@@ -25,16 +24,14 @@ pub returns : goal.returns
 returns c =
     let s = c.args.bytes.now in
     let from = c.args.from in
-    let n = c.count_all-n in
+    let e = c.lines_of-lines.ensures in
+    let start = c.lines_of-lines.result.start in
     let last = c.count_all-last in
-    let e = c.last_line-start.ensures in
-    let start = c.last_line-start.result in
     let firsts = last.ensures.firsts ∙ ap (count is_first) (pieces.from_here s start) in
-    let z = counts.none_from is_feed s start (λ k a l. ne_eqb _ 10 (e.none k a l)) in
-    let some = counts.some_left is_feed s start z (omega (arith, n.ensures.feeds, c.if-n-eq0.false)) in
+    let some = counts.some_left is_feed s start e.none (omega (arith, e.counts.feeds, c.if-n-eq0.false)) in
     sym
-    (places.last_feed from.line from.column start s (omega arith) some e.inside (e.at some) z
-    ∙ ap (λ k. at (more from.line k) (more 1 (count is_first (drop start s)))) (sym n.ensures.feeds)
-    ∙ ap (λ k. at (more from.line n.result.feeds) (more 1 k)) (sym firsts)
+    (places.last_feed from.line from.column start s (omega arith) some e.inside (e.after some) e.none
+    ∙ ap (λ k. at (more from.line k) (more 1 (count is_first (drop start s)))) (sym e.counts.feeds)
+    ∙ ap (λ k. at (more from.line c.lines_of-lines.result.counts.feeds) (more 1 k)) (sym firsts)
     ∙ ap (λ k. at k (more 1 last.result.firsts)) (sym c.more-2.ensures)
     ∙ ap (at c.more-2.result) (sym c.more-3.ensures))
