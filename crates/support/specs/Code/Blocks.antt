@@ -25,7 +25,7 @@ pub record CountsAre (s : Bytes) (r : Counts) : Type 0 where
   pub feeds : r.feeds ≡ count is_feed s
   pub firsts : r.firsts ≡ count is_first s
 
--- and where their last line starts: after the last LF, at 0 where there is none
+-- how many of each, and where the last line starts: after the last LF, at 0 where there is none
 pub record LinesAre (s : Bytes) (r : Lines) : Type 0 where
   pub counts : CountsAre s r.counts
   pub inside : r.start ≤ length s
