@@ -4,7 +4,7 @@ use Rattle.support.specs.Bytes.{Bytes, if}
 use Rattle.support.specs.Position.{largest}
 use Rattle.support.specs.Utf8.{is_tail}
 use Rattle.support.specs.declared.position.Counts.{Counts}
-use Rattle.support.specs.declared.position.Lines.{Lines}
+use Rattle.support.specs.declared.position.Stretch.{Stretch}
 
 -- how many of the bytes are of the class f
 unfoldable pub count : (ℕ → Bool) → Bytes → ℕ
@@ -26,7 +26,7 @@ pub record CountsAre (s : Bytes) (r : Counts) : Type 0 where
   pub firsts : r.firsts ≡ count is_first s
 
 -- how many of each, and where the last line starts: after the last LF, at 0 where there is none
-pub record LinesAre (s : Bytes) (r : Lines) : Type 0 where
+pub record StretchIs (s : Bytes) (r : Stretch) : Type 0 where
   pub counts : CountsAre s r.counts
   pub inside : r.start ≤ length s
   pub after : 0 < r.start → get_or s (r.start - 1) 0 ≡ 10

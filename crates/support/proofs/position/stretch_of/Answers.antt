@@ -2,7 +2,7 @@
 use borrow.Author.Tests.{ne_eqb}
 use Rattle.support.specs.Code.Blocks.{is_feed}
 use Rattle.support.proofs.Counts as counts
-use Rattle.support.proofs.position.lines_of.Goals as goal
+use Rattle.support.proofs.position.stretch_of.Goals as goal
 
 pub returns : goal.returns
 returns c =
